@@ -10,13 +10,14 @@ use Rattle.std.specs.Ordering.{nat_cmp, match_ordering}
 use Rattle.std.specs.Cmp.Lexicographic.{slice_cmp}
 use Rattle.serde_json.specs.Data.{Data, array, object, Items, no_items, item, Members, no_members, member}
 use Rattle.serde_json.specs.Find.{as_str, as_bool, as_array}
-use Rattle.dap_recording.specs.Reading.{Read, required_at, optional_or, element, value_at, some_items, line_of, source_place, lines_at, new_id, thread_place, Holders, holder_of, with_holder, variable_of, variables_of, each_variable, variables_within, read_variables, Numbered, each, scope_of, scopes_of, frame_of, thread_of, moment_of, moments_of}
+use Rattle.dap_recording.specs.Reading.{Read, required_at, optional_or, element, value_at, some_items, frame_source, frame_line, untold_of, stop_of, none_numbered, new_id, thread_place, Holders, holder_of, with_holder, variable_of, variables_of, each_variable, variables_within, read_variables, Numbered, each, scope_of, scopes_of, frame_of, thread_of, moment_of}
 use Rattle.dap_recording.specs.Recording.{holders_of_scopes, holders_of_variables}
 use Rattle.dap_recording.specs.RecordingKey.{name_of}
 use Rattle.dap_debuggee.specs.declared.answers.Frame.{Frame}
 use Rattle.dap_debuggee.specs.declared.answers.Scope.{Scope}
 use Rattle.dap_debuggee.specs.declared.answers.Variable.{Variable}
 use Rattle.dap_recording.specs.declared.reading.RecordingKey.TheVariants as key
+use Rattle.dap_recording.specs.declared.reading.Teller.{Teller}
 use Rattle.dap_recording.specs.declared.recording.RecordedSource.{RecordedSource}
 use Rattle.dap_recording.specs.declared.recording.RecordedThread.{RecordedThread}
 use Rattle.dap_recording.specs.declared.recording.Moment.{Moment}
@@ -160,11 +161,10 @@ scope_numbers n d holders r e =
 scope_added : (n : ℕ) (before : Holders) (found : List Scope) (holders : Holders) (d : Data) (next : Scope × Holders) → scope_of d holders ≡ Ok next → NumbersScopes n before (found, holders) → NumbersScopes n before (found ++ next.0 ∷ [], next.1)
 scope_added n before found holders d next e p = omega (arith, p, scope_numbers n d holders next e, scopes_more n found next.0)
 
-scopes_numbers : (n : ℕ) (d : Data) (holders : Holders) (r : List Scope × Holders) → scopes_of d holders ≡ Ok r → NumbersScopes n holders r
+scopes_numbers : (n : ℕ) (given : Items) (holders : Holders) (r : List Scope × Holders) → scopes_of given holders ≡ Ok r → NumbersScopes n holders r
 unfolding scopes_of
-scopes_numbers n d holders r e =
-    with_ok (optional_or as_array no_items key.Scopes d) _ r e (λ given is e1.
-    each_holds (λ earlier. scope_of) (NumbersScopes n holders) (λ found s x next is_next p. scope_added n holders found s x next is_next p) given [] holders r e1 (omega (arith, no_scopes n)))
+scopes_numbers n given holders r e =
+    each_holds (λ earlier. scope_of) (NumbersScopes n holders) (λ found s x next is_next p. scope_added n holders found s x next is_next p) given [] holders r e (omega (arith, no_scopes n))
 
 -- ---- frames, threads and moments
 
@@ -172,43 +172,44 @@ scopes_numbers n d holders r e =
 abbrev NumbersAll : ℕ → Numbered → Type 0
 NumbersAll n s = in_frames n s.scopes + in_holders n s.variables ≡ below n (length s.variables)
 
-frame_numbers : (n : ℕ) (sources : List RecordedSource) (d : Data) (s : Numbered) (r : Frame × Numbered) → frame_of sources d s ≡ Ok r → NumbersAll n s → NumbersAll n r.1
+frame_numbers : (n : ℕ) (by : Teller) (sources : List RecordedSource) (d : Data) (s : Numbered) (r : Frame × Numbered) → frame_of by sources d s ≡ Ok r → NumbersAll n s → NumbersAll n r.1
 unfolding frame_of
-frame_numbers n sources d s r e p =
+frame_numbers n by sources d s r e p =
     with_ok (required_at as_str key.Name d) _ r (then_ok (element key.Frames d) _ r e) (λ name named e1.
-    with_ok (required_at (source_place sources) key.Source d) _ r e1 (λ source placed e2.
-    with_ok (required_at (line_of (lines_at sources source)) key.Line d) _ r e2 (λ line lined e3.
-    with_ok (scopes_of d s.variables) _ r e3 (λ scopes scoped e4.
+    with_ok (frame_source by sources d) _ r e1 (λ source placed e2.
+    with_ok (frame_line sources source d) _ r e2 (λ line lined e3.
+    with_ok (optional_or as_array no_items key.Scopes d) _ r e3 (λ given listed e4.
+    with_ok (scopes_of given s.variables) _ r e4 (λ scopes scoped e5.
     let frame : Frame = record { object = length s.scopes; name = name; source = source; line = line } in
-    let after : Numbered = record { scopes = s.scopes ++ scopes.0 ∷ []; variables = scopes.1 } in
-    subst (λ (x : Frame × Numbered). NumbersAll n x.1) (ok_same (frame, after) r e4) (omega (arith, p, scopes_numbers n d s.variables scopes scoped, frames_more n s.scopes scopes.0))))))
+    let after : Numbered = record { scopes = s.scopes ++ scopes.0 ∷ []; variables = scopes.1; untold = s.untold ++ untold_of given scopes.0 } in
+    subst (λ (x : Frame × Numbered). NumbersAll n x.1) (ok_same (frame, after) r e5) (omega (arith, p, scopes_numbers n given s.variables scopes scoped, frames_more n s.scopes scopes.0)))))))
 
-thread_numbers : (n : ℕ) (sources : List RecordedSource) (earlier : List RecordedThread) (d : Data) (s : Numbered) (r : RecordedThread × Numbered) → thread_of sources earlier d s ≡ Ok r → NumbersAll n s → NumbersAll n r.1
+thread_numbers : (n : ℕ) (by : Teller) (sources : List RecordedSource) (earlier : List RecordedThread) (d : Data) (s : Numbered) (r : RecordedThread × Numbered) → thread_of by sources earlier d s ≡ Ok r → NumbersAll n s → NumbersAll n r.1
 unfolding thread_of
-thread_numbers n sources earlier d s r e p =
+thread_numbers n by sources earlier d s r e p =
     with_ok (required_at (new_id earlier) key.Id d) _ r (then_ok (element key.Threads d) _ r e) (λ id new e1.
     with_ok (required_at as_str key.Name d) _ r e1 (λ name named e2.
     with_ok (some_items key.Frames d) _ r e2 (λ given some e3.
-    with_ok (each (λ earlier. frame_of sources) given [] s) _ r e3 (λ frames read e4.
+    with_ok (each (λ earlier. frame_of by sources) given [] s) _ r e3 (λ frames read e4.
     subst (λ (x : RecordedThread × Numbered). NumbersAll n x.1) (ok_same (record { id = id; name = name; frames = frames.0 }, frames.1) r e4)
-    (each_holds (λ earlier. frame_of sources) (λ x. NumbersAll n x.1) (λ found t x next is q. frame_numbers n sources x t next is q) given [] s frames read p)))))
+    (each_holds (λ earlier. frame_of by sources) (λ x. NumbersAll n x.1) (λ found t x next is q. frame_numbers n by sources x t next is q) given [] s frames read p)))))
 
-moment_numbers : (n : ℕ) (sources : List RecordedSource) (d : Data) (s : Numbered) (r : Moment × Numbered) → moment_of sources d s ≡ Ok r → NumbersAll n s → NumbersAll n r.1
+moment_numbers : (n : ℕ) (by : Teller) (sources : List RecordedSource) (d : Data) (s : Numbered) (r : Moment × Numbered) → moment_of by sources d s ≡ Ok r → NumbersAll n s → NumbersAll n r.1
 unfolding moment_of
-moment_numbers n sources d s r e p =
+moment_numbers n by sources d s r e p =
     with_ok (required_at as_array key.Threads d) _ r (then_ok (element key.Moments d) _ r e) (λ given array e1.
-    with_ok (each (thread_of sources) given [] s) _ r e1 (λ threads read e2.
+    with_ok (each (thread_of by sources) given [] s) _ r e1 (λ threads read e2.
     with_ok (required_at (thread_place threads.0) key.Thread d) _ r e2 (λ thread placed e3.
     with_ok (optional_or as_str [] key.Output d) _ r e3 (λ output written e4.
     with_ok (optional_or as_bool false key.Waits d) _ r e4 (λ waits held e5.
-    subst (λ (x : Moment × Numbered). NumbersAll n x.1) (ok_same (record { threads = threads.0; thread = thread; output = output; waits = waits; frames = record { from = length s.scopes; to = length threads.1.scopes }; holders = record { from = length s.variables; to = length threads.1.variables } }, threads.1) r e5)
-    (each_holds (thread_of sources) (λ x. NumbersAll n x.1) (λ found t x next is q. thread_numbers n sources found x t next is q) given [] s threads read p))))))
+    with_ok (stop_of d) _ r e5 (λ stop stopped e6.
+    subst (λ (x : Moment × Numbered). NumbersAll n x.1) (ok_same (record { threads = threads.0; thread = thread; output = output; waits = waits; stop = stop; frames = record { from = length s.scopes; to = length threads.1.scopes }; holders = record { from = length s.variables; to = length threads.1.variables } }, threads.1) r e6)
+    (each_holds (thread_of by sources) (λ x. NumbersAll n x.1) (λ found t x next is q. thread_numbers n by sources found x t next is q) given [] s threads read p)))))))
 
 all_once : (n : ℕ) (s : Numbered) → NumbersAll n s → count_by (nat_eq n) (flat_map holders_of_scopes s.scopes ++ flat_map holders_of_variables s.variables) ≤ 1
 unfolding in_frames in_holders
 all_once n s p = omega (arith, p, below_once n (length s.variables), sum_by-append (λ m. cond (nat_eq n m) 1 0) (flat_map holders_of_scopes s.scopes) (flat_map holders_of_variables s.variables))
 
-pub holders_once : (sources : List RecordedSource) (ds : Items) (r : List Moment × Numbered) → moments_of sources ds (record { scopes = []; variables = [] }) ≡ Ok r → (n : ℕ) → count_by (nat_eq n) (flat_map holders_of_scopes r.1.scopes ++ flat_map holders_of_variables r.1.variables) ≤ 1
-unfolding moments_of
-holders_once sources ds r e n =
-    all_once n r.1 (each_holds (λ earlier. moment_of sources) (λ x. NumbersAll n x.1) (λ found t x next is q. moment_numbers n sources x t next is q) ds [] (record { scopes = []; variables = [] }) r e (nothing n))
+pub holders_once : (by : Teller) (sources : List RecordedSource) (ds : Items) (r : List Moment × Numbered) → each (λ earlier. moment_of by sources) ds [] none_numbered ≡ Ok r → (n : ℕ) → count_by (nat_eq n) (flat_map holders_of_scopes r.1.scopes ++ flat_map holders_of_variables r.1.variables) ≤ 1
+holders_once by sources ds r e n =
+    all_once n r.1 (each_holds (λ earlier. moment_of by sources) (λ x. NumbersAll n x.1) (λ found t x next is q. moment_numbers n by sources x t next is q) ds [] none_numbered r e (nothing n))

@@ -1,5 +1,5 @@
 -- What is read of a recording holds of every recording.
-use Rattle.std.proofs.Common.{◌≡◌, ℕ, suc, ◌+◌, ◌<◌, ◌≤◌, ◌&&◌, ℤ, pos, Bool, true, false, not, nat_le, nat_lt, nat_eq, if◌then◌else◌, List, [], ◌∷◌, ◌++◌, length, map, Option, Some, None, is_some, option_and_then, option_map, Result, Ok, Err, IfOk, length-append, append_assoc, append-nil, eq-eqb, refl, sym, ap, subst, ◌∙◌, arith, true≢false}
+use Rattle.std.proofs.Common.{◌≡◌, ℕ, suc, ◌+◌, ◌<◌, ◌≤◌, ◌&&◌, ℤ, pos, Bool, true, false, not, nat_le, nat_lt, nat_eq, if◌then◌else◌, List, [], ◌∷◌, ◌++◌, length, map, Option, Some, None, is_some, option_and_then, option_map, unwrap_or, Result, Ok, Err, IfOk, length-append, append_assoc, append-nil, eq-eqb, refl, sym, ap, subst, ◌∙◌, arith, true≢false}
 use Rattle.std.proofs.lemmas.Bool.{leb-true, ltb-true, lt-ltb, and_parts, and_from}
 use Rattle.std.proofs.lemmas.Grind.{flat_map-append}
 use Rattle.std.proofs.lemmas.List.{map-append}
@@ -12,16 +12,19 @@ use Rattle.serde_json.specs.Find.{as_number, as_u64, as_i64, as_str, as_bool, as
 use Rattle.dap_json.specs.Field.{if_passes, is_object}
 use Rattle.dap_json.specs.Steps.{◌>>=◌}
 use Rattle.dap_command.specs.Numbers.{is_int, int_of, number_of}
-use Rattle.dap_debuggee.specs.Laws.{is_frame}
-use Rattle.dap_recording.specs.Reading.{Read, Gives, or_fault, verdict_of, or_bad, required_at, optional_at, optional_or, element, value_at, some_items, few_items, few_in, exit_of, line_of, source_place, lines_at, place_of, new_id, thread_place, Numbered, each, each_source, scopes_of, frame_of, thread_of, moment_of, moments_of, source_of, sources_of, recording_of, alone, alone_over}
-use Rattle.dap_recording.specs.Recording.{objects_of, IsRecording, line_count, is_thread, is_moment, is_rising, are_distinct}
+use Rattle.dap_debuggee.specs.Laws.{is_place, is_frame}
+use Rattle.dap_recording.specs.Reading.{Read, Gives, or_fault, verdict_of, or_bad, required_at, optional_at, optional_or, element, value_at, some_items, few_items, few_in, exit_of, line_of, source_place, lines_at, short_text, in_shape, frame_source, frame_line, untold_of, stop_with, stop_of, none_numbered, place_of, new_id, thread_place, Numbered, each, each_source, scopes_of, frame_of, thread_of, moment_of, moments_of, source_of, sources_of, recording_of, alone}
+use Rattle.dap_recording.specs.Recording.{objects_of, IsRecording, line_count, is_thread, is_moment, is_rising, are_distinct, is_short_text, is_short_stop, has_short_stop}
 use Rattle.dap_debuggee.specs.declared.answers.Frame.{Frame}
 use Rattle.dap_recording.specs.declared.reading.RecordingFault.{RecordingFault}
 use Rattle.dap_recording.specs.declared.reading.RecordingFault.TheVariants.{NotObject}
 use Rattle.dap_recording.specs.declared.reading.RecordingKey.{RecordingKey}
 use Rattle.dap_recording.specs.declared.reading.RecordingKey.TheVariants as key
+use Rattle.dap_recording.specs.declared.reading.Teller.{Teller}
+use Rattle.dap_recording.specs.declared.reading.Teller.TheVariants as teller
 use Rattle.dap_recording.specs.declared.recording.RecordedSource.{RecordedSource}
 use Rattle.dap_recording.specs.declared.recording.RecordedThread.{RecordedThread}
+use Rattle.dap_recording.specs.declared.recording.OwnStop.{OwnStop}
 use Rattle.dap_recording.specs.declared.recording.Moment.{Moment}
 use Rattle.dap_recording.specs.declared.recording.Recording.{Recording}
 use Rattle.dap_recording.proofs.ReadSteps.{some_same, ok_same, then_ok, bind_ok, with_ok, each_holds}
@@ -40,6 +43,15 @@ and_then_is shape (Some v) x e = (v, e)
 
 required_is : {A : Type 0} (shape : Data → Option A) (k : RecordingKey) (d : Data) (x : A) → required_at shape k d ≡ Ok x → (v : Data) × (shape v ≡ Some x)
 required_is shape k d x e = and_then_is shape (value_at k d) x (bad_is k (option_and_then shape (value_at k d)) x e)
+
+mapped_is : {A : Type 0} (o : Option A) (x : A) → option_map Some o ≡ Some (Some x) → o ≡ Some x
+mapped_is None x e = absurd (cc e)
+mapped_is (Some y) x e = some_same (Some y) (Some x) e
+
+-- what is there, of a value that may be absent
+in_shape_is : {A : Type 0} (shape : Data → Option A) (k : RecordingKey) (o : Option Data) (x : A) → in_shape shape k o ≡ Ok (Some x) → (v : Data) × (shape v ≡ Some x)
+in_shape_is shape k None x e = absurd (cc e)
+in_shape_is shape k (Some v) x e = (v, mapped_is (shape v) x (bad_is k (option_map Some (shape v)) (Some x) e))
 
 passes_by : {A : Type 0} (b : Bool) (test : A → Bool) (y x : A) → test y ≡ b → (if b then Some y else None) ≡ Some x → (Some y ≡ Some x) × (test x ≡ true)
 passes_by true test y x is e = (e, ap test (sym (some_same y x e)) ∙ is)
@@ -140,26 +152,36 @@ line_fits lines d line e =
     let q = passes_is (λ n. nat_le n 2147483647) (option_and_then as_u64 (as_number v.0)) line p.0 in
     ((and_parts (nat_le 1 line) (nat_le line lines) p.1).0, q.1)
 
-source_fits : (sources : List RecordedSource) (d : Data) (source : ℕ) → required_at (source_place sources) key.Source d ≡ Ok source → nat_lt source (length sources) ≡ true
-source_fits sources d source e =
-    let v = required_is (source_place sources) key.Source d source e in
-    (passes_is (λ n. nat_lt n (length sources)) (number_of v.0) source v.1).1
+source_told : (by : Teller) (sources : List RecordedSource) (d : Data) (source : ℕ) → frame_source by sources d ≡ Ok (Some source) → (v : Data) × (source_place sources v ≡ Some source)
+source_told teller.Recording sources d source e =
+    let b = bind_ok (required_at (source_place sources) key.Source d) (λ n. Ok (Some n)) (Some source) e in
+    let same : b.0 ≡ source = cc in
+    required_is (source_place sources) key.Source d source (b.1 ∙ ap Ok same)
+source_told teller.Host sources d source e = in_shape_is (source_place sources) key.Source (value_at key.Source d) source e
 
-frame_holds : (sources : List RecordedSource) (before : List ℕ) (found : List Frame) (s : Numbered) (d : Data) (next : Frame × Numbered) → frame_of sources d s ≡ Ok next
+-- a line of a source that is there, or 0 without one
+place_fits : (by : Teller) (sources : List RecordedSource) (d : Data) (source : Option ℕ) (line : ℕ) → frame_source by sources d ≡ Ok source → frame_line sources source d ≡ Ok line → is_place (length sources) source line ≡ true
+place_fits by sources d None line told lined = ap (λ n. nat_eq n 0) (sym (ok_same 0 line lined))
+place_fits by sources d (Some source) line told lined =
+    let fits = line_fits (lines_at sources source) d line lined in
+    let v = source_told by sources d source told in
+    and_from (nat_le 1 line) (nat_le line 2147483647 && nat_lt source (length sources)) fits.0
+    (and_from (nat_le line 2147483647) (nat_lt source (length sources)) fits.1 (passes_is (λ n. nat_lt n (length sources)) (number_of v.0) source v.1).1)
+
+frame_holds : (by : Teller) (sources : List RecordedSource) (before : List ℕ) (found : List Frame) (s : Numbered) (d : Data) (next : Frame × Numbered) → frame_of by sources d s ≡ Ok next
     → FramesHold (length sources) before (found, s) → FramesHold (length sources) before (found ++ next.0 ∷ [], next.1)
 unfolding frame_of
-frame_holds sources before found s d next e p =
+frame_holds by sources before found s d next e p =
     with_ok (required_at as_str key.Name d) _ next (then_ok (element key.Frames d) _ next e) (λ name named e1.
-    with_ok (required_at (source_place sources) key.Source d) _ next e1 (λ source placed e2.
-    with_ok (required_at (line_of (lines_at sources source)) key.Line d) _ next e2 (λ line lined e3.
-    with_ok (scopes_of d s.variables) _ next e3 (λ scopes scoped e4.
+    with_ok (frame_source by sources d) _ next e1 (λ source placed e2.
+    with_ok (frame_line sources source d) _ next e2 (λ line lined e3.
+    with_ok (optional_or as_array no_items key.Scopes d) _ next e3 (λ given listed e4.
+    with_ok (scopes_of given s.variables) _ next e4 (λ scopes scoped e5.
     let frame : Frame = record { object = length s.scopes; name = name; source = source; line = line } in
-    let after : Numbered = record { scopes = s.scopes ++ scopes.0 ∷ []; variables = scopes.1 } in
+    let after : Numbered = record { scopes = s.scopes ++ scopes.0 ∷ []; variables = scopes.1; untold = s.untold ++ untold_of given scopes.0 } in
     let more = length-append s.scopes (scopes.0 ∷ []) in
-    let fits = line_fits (lines_at sources source) d line lined in
-    subst (λ n. FramesHold (length sources) before (found ++ n.0 ∷ [], n.1)) (ok_same (frame, after) next e4)
-    (frame_added (length sources) before found s after frame refl (omega (arith, more))
-    (and_from (nat_le 1 line) (nat_le line 2147483647 && nat_lt source (length sources)) fits.0 (and_from (nat_le line 2147483647) (nat_lt source (length sources)) fits.1 (source_fits sources d source placed))) p)))))
+    subst (λ n. FramesHold (length sources) before (found ++ n.0 ∷ [], n.1)) (ok_same (frame, after) next e5)
+    (frame_added (length sources) before found s after frame refl (omega (arith, more)) (place_fits by sources d source line placed lined) p))))))
 
 -- ---- threads
 
@@ -205,19 +227,19 @@ thread_added sources found s id name r int new some frames p =
       numbers = subst (Rises (length r.1.scopes)) list frames.numbers;
     }
 
-thread_holds : (sources : List RecordedSource) (found : List RecordedThread) (s : Numbered) (d : Data) (next : RecordedThread × Numbered) → thread_of sources found d s ≡ Ok next
+thread_holds : (by : Teller) (sources : List RecordedSource) (found : List RecordedThread) (s : Numbered) (d : Data) (next : RecordedThread × Numbered) → thread_of by sources found d s ≡ Ok next
     → ThreadsHold (length sources) (found, s) → ThreadsHold (length sources) (found ++ next.0 ∷ [], next.1)
 unfolding thread_of
-thread_holds sources found s d next e p =
+thread_holds by sources found s d next e p =
     with_ok (required_at (new_id found) key.Id d) _ next (then_ok (element key.Threads d) _ next e) (λ id new e1.
     with_ok (required_at as_str key.Name d) _ next e1 (λ name named e2.
     with_ok (some_items key.Frames d) _ next e2 (λ given some e3.
-    with_ok (each (λ earlier. frame_of sources) given [] s) _ next e3 (λ frames read e4.
+    with_ok (each (λ earlier. frame_of by sources) given [] s) _ next e3 (λ frames read e4.
     let is_new = new_id_is found d id new in
-    let count = each_count (λ earlier. frame_of sources) given [] s frames read in
+    let count = each_count (λ earlier. frame_of by sources) given [] s frames read in
     let least = some_count key.Frames d given some in
     let first : FramesHold (length sources) (objects_of found) ([], s) = record { frames = refl; numbers = subst (Rises (length s.scopes)) (sym (append-nil (objects_of found))) p.numbers } in
-    let held = each_holds (λ earlier. frame_of sources) (FramesHold (length sources) (objects_of found)) (frame_holds sources (objects_of found)) given [] s frames read first in
+    let held = each_holds (λ earlier. frame_of by sources) (FramesHold (length sources) (objects_of found)) (frame_holds by sources (objects_of found)) given [] s frames read first in
     subst (λ n. ThreadsHold (length sources) (found ++ n.0 ∷ [], n.1)) (ok_same (record { id = id; name = name; frames = frames.0 }, frames.1) next e4)
     (thread_added (length sources) found s id name frames is_new.0 is_new.1 (omega (arith, count, least)) held p)))))
 
@@ -241,20 +263,48 @@ thread_within threads d k e =
     within_by None e = absurd (cc e)
     within_by (Some id) e = place_within id threads k e
 
-moment_holds : (sources : List RecordedSource) (d : Data) (s : Numbered) (next : Moment × Numbered) → moment_of sources d s ≡ Ok next → is_moment (length sources) next.0 ≡ true
+-- ---- a stop of its own
+
+short_is : (most : ℕ) (k : RecordingKey) (d : Data) (text : Option (List ℕ)) → optional_at (short_text most) k d ≡ Ok text → is_short_text most text ≡ true
+short_is most k d None e = refl
+short_is most k d (Some text) e =
+    let v = in_shape_is (short_text most) k (value_at k d) text e in
+    (passes_is (λ t. nat_le (length t) most) (as_str v.0) text v.1).1
+
+stop_short : (reason description text : Option (List ℕ)) → is_short_text 64 reason ≡ true → is_short_text 128 description ≡ true → is_short_text 128 text ≡ true → unwrap_or (option_map is_short_stop (stop_with reason description text)) true ≡ true
+stop_short None description text r d t = refl
+stop_short (Some reason) description text r d t = and_from (nat_le (length reason) 64) (is_short_text 128 description && is_short_text 128 text) r (and_from (is_short_text 128 description) (is_short_text 128 text) d t)
+
+stop_holds : (d : Data) (stop : Option OwnStop) → stop_of d ≡ Ok stop → unwrap_or (option_map is_short_stop stop) true ≡ true
+unfolding stop_of
+stop_holds d stop e =
+    with_ok (optional_at (short_text 64) key.Stop d) _ stop e (λ reason is_reason e1.
+    with_ok (optional_at (short_text 128) key.Description d) _ stop e1 (λ description is_description e2.
+    with_ok (optional_at (short_text 128) key.Text d) _ stop e2 (λ text is_text e3.
+    subst (λ s. unwrap_or (option_map is_short_stop s) true ≡ true) (ok_same (stop_with reason description text) stop e3)
+    (stop_short reason description text (short_is 64 key.Stop d reason is_reason) (short_is 128 key.Description d description is_description) (short_is 128 key.Text d text is_text)))))
+
+record MomentHolds (sources : ℕ) (m : Moment) : Type 0 where
+  pub moment : is_moment sources m ≡ true
+  pub stop : has_short_stop m ≡ true
+
+moment_holds : (by : Teller) (sources : List RecordedSource) (d : Data) (s : Numbered) (next : Moment × Numbered) → moment_of by sources d s ≡ Ok next → MomentHolds (length sources) next.0
 unfolding moment_of
-moment_holds sources d s next e =
+moment_holds by sources d s next e =
     with_ok (required_at as_array key.Threads d) _ next (then_ok (element key.Moments d) _ next e) (λ given array e1.
-    with_ok (each (thread_of sources) given [] s) _ next e1 (λ threads read e2.
+    with_ok (each (thread_of by sources) given [] s) _ next e1 (λ threads read e2.
     with_ok (required_at (thread_place threads.0) key.Thread d) _ next e2 (λ thread placed e3.
     with_ok (optional_or as_str [] key.Output d) _ next e3 (λ output written e4.
     with_ok (optional_or as_bool false key.Waits d) _ next e4 (λ waits held e5.
+    with_ok (stop_of d) _ next e5 (λ stop stopped e6.
     let first : ThreadsHold (length sources) ([], s) = record { threads = refl; distinct = refl; numbers = record { rises = refl; below = refl } } in
-    let all = each_holds (thread_of sources) (ThreadsHold (length sources)) (thread_holds sources) given [] s threads read first in
-    subst (λ n. is_moment (length sources) n.0 ≡ true) (ok_same (record { threads = threads.0; thread = thread; output = output; waits = waits; frames = record { from = length s.scopes; to = length threads.1.scopes }; holders = record { from = length s.variables; to = length threads.1.variables } }, threads.1) next e5)
-    (and_from (nat_lt thread (length threads.0)) (list_all (is_thread (length sources)) threads.0 && (are_distinct threads.0 && is_rising (objects_of threads.0)))
+    let all = each_holds (thread_of by sources) (ThreadsHold (length sources)) (thread_holds by sources) given [] s threads read first in
+    let fits : nat_lt thread (length threads.0) && (list_all (is_thread (length sources)) threads.0 && (are_distinct threads.0 && is_rising (objects_of threads.0))) ≡ true =
+    and_from (nat_lt thread (length threads.0)) (list_all (is_thread (length sources)) threads.0 && (are_distinct threads.0 && is_rising (objects_of threads.0)))
     (lt-ltb thread (length threads.0) (thread_within threads.0 d thread placed))
-    (and_from (list_all (is_thread (length sources)) threads.0) (are_distinct threads.0 && is_rising (objects_of threads.0)) all.threads (and_from (are_distinct threads.0) (is_rising (objects_of threads.0)) all.distinct all.numbers.rises))))))))
+    (and_from (list_all (is_thread (length sources)) threads.0) (are_distinct threads.0 && is_rising (objects_of threads.0)) all.threads (and_from (are_distinct threads.0) (is_rising (objects_of threads.0)) all.distinct all.numbers.rises)) in
+    subst (λ (n : Moment × Numbered). MomentHolds (length sources) n.0) (ok_same (record { threads = threads.0; thread = thread; output = output; waits = waits; stop = stop; frames = record { from = length s.scopes; to = length threads.1.scopes }; holders = record { from = length s.variables; to = length threads.1.variables } }, threads.1) next e6)
+    (record { moment = fits; stop = stop_holds d stop stopped })))))))
 
 -- ---- the whole
 
@@ -282,49 +332,56 @@ sources_hold (item d ds) found all e p =
     let count : length all ≡ length found + suc (items_len ds) = omega (arith, rest.1, more) in
     (rest.0, count))
 
-abbrev MomentsHold : ℕ → List Moment × Numbered → Type 0
-MomentsHold sources r = list_all (is_moment sources) r.0 ≡ true
+record MomentsHold (sources : ℕ) (r : List Moment × Numbered) : Type 0 where
+  pub moments : list_all (is_moment sources) r.0 ≡ true
+  pub stops : list_all has_short_stop r.0 ≡ true
+
+moments_more : (sources : ℕ) (found : List Moment) (s t : Numbered) (m : Moment) → MomentHolds sources m → MomentsHold sources (found, s) → MomentsHold sources (found ++ m ∷ [], t)
+moments_more sources found s t m one p = record {
+  moments = all_more (is_moment sources) found m p.moments one.moment;
+  stops = all_more has_short_stop found m p.stops one.stop;
+}
 
 -- moments that are some, read over sources that hold
-recording_holds : (exit : ℤ) (sources : List RecordedSource) (given : Items) (moments : List Moment × Numbered)
-    → length sources ≤ 65536 → list_all is_counted sources ≡ true → 1 ≤ items_len given → moments_of sources given (record { scopes = []; variables = [] }) ≡ Ok moments
-    → IsRecording (record { exit = exit; sources = sources; moments = moments.0; scopes = moments.1.scopes; variables = moments.1.variables })
-unfolding moments_of
-recording_holds exit sources given moments most counted least read =
-    let count = each_count (λ earlier. moment_of sources) given [] (record { scopes = []; variables = [] }) moments read in
-    let all = each_holds (λ earlier. moment_of sources) (MomentsHold (length sources)) (λ found s x next is p. all_more (is_moment (length sources)) found next.0 p (moment_holds sources x s next is)) given [] (record { scopes = []; variables = [] }) moments read refl in
+recording_holds : (exit : ℤ) (by : Teller) (sources : List RecordedSource) (given : Items) (moments : List Moment × Numbered)
+    → length sources ≤ 65536 → list_all is_counted sources ≡ true → 1 ≤ items_len given → each (λ earlier. moment_of by sources) given [] none_numbered ≡ Ok moments
+    → IsRecording (record { exit = exit; sources = sources; moments = moments.0; scopes = moments.1.scopes; variables = moments.1.variables; untold = moments.1.untold })
+recording_holds exit by sources given moments most counted least read =
+    let count = each_count (λ earlier. moment_of by sources) given [] none_numbered moments read in
+    let all = each_holds (λ earlier. moment_of by sources) (MomentsHold (length sources)) (λ found s x next is p. moments_more (length sources) found s next.1 next.0 (moment_holds by sources x s next is) p) given [] none_numbered moments read (record { moments = refl; stops = refl }) in
     record {
       sources = most;
       lines = counted;
       some = omega (arith, count, least);
-      moments = all;
-      holders = λ n. holders_once sources given moments read n;
-      spans = spans_read sources given moments read;
+      moments = all.moments;
+      stops = all.stops;
+      holders = λ n. holders_once by sources given moments read n;
+      spans = spans_read by sources given moments read;
     }
 
 pub is_read : (d : Data) (r : Recording) → recording_of d ≡ Ok r → IsRecording r
-unfolding recording_of
+unfolding recording_of moments_of
 is_read d r e =
     with_ok (required_at exit_of key.Exit d) _ r e (λ exit exited e1.
     with_ok (few_items key.Sources d) _ r e1 (λ texts few e2.
     with_ok (each_source texts []) _ r e2 (λ sources told e3.
     with_ok (some_items key.Moments d) _ r e3 (λ given some e4.
-    with_ok (moments_of sources given (record { scopes = []; variables = [] })) _ r e4 (λ moments read e5.
+    with_ok (moments_of sources given none_numbered) _ r e4 (λ moments read e5.
     let counted = sources_hold texts [] sources told refl in
     let most = few_count key.Sources d texts few in
-    subst IsRecording (ok_same (record { exit = exit; sources = sources; moments = moments.0; scopes = moments.1.scopes; variables = moments.1.variables }) r e5)
-    (recording_holds exit sources given moments (omega (arith, counted.1, most)) counted.0 (some_count key.Moments d given some) read))))))
+    subst IsRecording (ok_same (record { exit = exit; sources = sources; moments = moments.0; scopes = moments.1.scopes; variables = moments.1.variables; untold = moments.1.untold }) r e5)
+    (recording_holds exit teller.Recording sources given moments (omega (arith, counted.1, most)) counted.0 (some_count key.Moments d given some) read))))))
 
 -- one moment, read over sources that hold
 pub alone_holds : (sources : List RecordedSource) (d : Data) (r : Recording) → alone sources d ≡ Ok r → length sources ≤ 65536 → list_all is_counted sources ≡ true → IsRecording r
-unfolding alone moments_of
+unfolding alone
 alone_holds sources d r e most counted =
-    with_ok (moment_of sources d (record { scopes = []; variables = [] })) _ r e (λ moment read e1.
+    with_ok (moment_of teller.Host sources d none_numbered) _ r e (λ moment read e1.
     let moments : List Moment × Numbered = (moment.0 ∷ [], moment.1) in
-    let all : moments_of sources (item d no_items) (record { scopes = []; variables = [] }) ≡ Ok moments =
-    ap (λ (x : Read (Moment × Numbered)). x >>= (λ next. each (λ earlier. moment_of sources) no_items ([] ++ next.0 ∷ []) next.1)) read in
-    subst IsRecording (ok_same (record { exit = pos 0; sources = sources; moments = moments.0; scopes = moments.1.scopes; variables = moments.1.variables }) r e1)
-    (recording_holds (pos 0) sources (item d no_items) moments most counted (omega arith) all))
+    let all : each (λ earlier. moment_of teller.Host sources) (item d no_items) [] none_numbered ≡ Ok moments =
+    ap (λ (x : Read (Moment × Numbered)). x >>= (λ next. each (λ earlier. moment_of teller.Host sources) no_items ([] ++ next.0 ∷ []) next.1)) read in
+    subst IsRecording (ok_same (record { exit = pos 0; sources = sources; moments = moments.0; scopes = moments.1.scopes; variables = moments.1.variables; untold = moments.1.untold }) r e1)
+    (recording_holds (pos 0) teller.Host sources (item d no_items) moments most counted (omega arith) all))
 
 -- sources that were read hold
 sources_are_read : (d : Data) (sources : List RecordedSource) → sources_of d ≡ Ok sources → (length sources ≤ 65536) × (list_all is_counted sources ≡ true)

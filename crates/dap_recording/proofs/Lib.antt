@@ -1,5 +1,6 @@
 pub mod Depths
 pub mod Children
+pub mod Untold
 pub mod Elements
 pub mod ReadSteps
 pub mod HoldersRead

@@ -7,11 +7,12 @@ use Rattle.serde_json.specs.Events.{items_len}
 use Rattle.serde_json.specs.Find.{as_array}
 use Rattle.serde_json.proofs.Views.{get_member-put, get_member-put_other}
 use Rattle.dap_json.specs.Steps.{◌>>=◌}
-use Rattle.dap_recording.specs.Reading.{Read, Numbered, each, moment_of, or_bad, exit_of, few_items, some_items, each_source, sources_of, moments_of, recording_of}
+use Rattle.dap_recording.specs.Reading.{Read, Numbered, none_numbered, each, moment_of, or_bad, exit_of, few_items, some_items, each_source, sources_of, moments_of, recording_of}
 use Rattle.dap_recording.specs.RecordingKey.{name_of}
 use Rattle.dap_recording.specs.PrivateOnePass.{exit_in, sources_in, moments_in, HoldsSeen}
 use Rattle.dap_recording.specs.declared.one_pass.Seen.{Seen}
 use Rattle.dap_recording.specs.declared.reading.RecordingKey.TheVariants as key
+use Rattle.dap_recording.specs.declared.reading.Teller.TheVariants as teller
 use Rattle.dap_recording.specs.declared.recording.RecordedSource.{RecordedSource}
 use Rattle.dap_recording.specs.declared.recording.Moment.{Moment}
 use Rattle.dap_recording.proofs.ReadSteps.{some_same, ok_same, bind_ok}
@@ -36,7 +37,7 @@ other_sources : (k : List ℕ) (d : Data) (ms : Members) → (name_of key.Source
 other_sources k d ms apart = ap (λ o. few_with o >>= (λ given. each_source given [])) (get_member-put_other (name_of key.Sources) k d ms apart)
 
 other_moments : (sources : List RecordedSource) (k : List ℕ) (d : Data) (ms : Members) → (name_of key.Moments ≡ k → ⊥) → moments_in sources (put k d ms) ≡ moments_in sources ms
-other_moments sources k d ms apart = ap (λ o. some_with o >>= (λ given. moments_of sources given (record { scopes = []; variables = [] }))) (get_member-put_other (name_of key.Moments) k d ms apart)
+other_moments sources k d ms apart = ap (λ o. some_with o >>= (λ given. moments_of sources given none_numbered)) (get_member-put_other (name_of key.Moments) k d ms apart)
 
 -- another key
 pub passed : (k : List ℕ) (d : Data) (ms : Members) (seen : Seen) → (name_of key.Exit ≡ k → ⊥) → (name_of key.Sources ≡ k → ⊥) → (name_of key.Moments ≡ k → ⊥) → HoldsSeen seen ms → HoldsSeen seen (put k d ms)
@@ -54,9 +55,9 @@ exit_taken d ms seen exit is holds = record {
 }
 
 -- one moment more
-pub one_moment : (sources : List RecordedSource) (d : Data) (later : Items) (found : List Moment) (s t : Numbered) (m : Moment) → moment_of sources d s ≡ Ok (m, t)
-    → each (λ earlier. moment_of sources) (item d later) found s ≡ each (λ earlier. moment_of sources) later (found ++ m ∷ []) t
-one_moment sources d later found s t m is = ap (λ r. r >>= (λ next. each (λ earlier. moment_of sources) later (found ++ next.0 ∷ []) next.1)) is
+pub one_moment : (sources : List RecordedSource) (d : Data) (later : Items) (found : List Moment) (s t : Numbered) (m : Moment) → moment_of teller.Recording sources d s ≡ Ok (m, t)
+    → each (λ earlier. moment_of teller.Recording sources) (item d later) found s ≡ each (λ earlier. moment_of teller.Recording sources) later (found ++ m ∷ []) t
+one_moment sources d later found s t m is = ap (λ r. r >>= (λ next. each (λ earlier. moment_of teller.Recording sources) later (found ++ next.0 ∷ []) next.1)) is
 
 -- the sources come, while no moments did
 pub sources_taken : (d : Data) (ms : Members) (seen : Seen) (sources : List RecordedSource) → sources_of d ≡ Ok sources → is_some seen.moments ≡ false → HoldsSeen seen ms
@@ -75,20 +76,20 @@ some_given sources (item d ds) s p e some = le-leb 1 (suc (items_len ds)) (omega
 
 -- the moments come, after the sources
 pub moments_taken : (ds : Items) (ms : Members) (seen : Seen) (sources : List RecordedSource) (moments : List Moment × Numbered) → seen.sources ≡ Some sources → nat_le 1 (items_len ds) ≡ true
-    → moments_of sources ds (record { scopes = []; variables = [] }) ≡ Ok moments → HoldsSeen seen ms → HoldsSeen (record { exit = seen.exit; sources = seen.sources; moments = Some moments }) (put (name_of key.Moments) (array ds) ms)
+    → moments_of sources ds none_numbered ≡ Ok moments → HoldsSeen seen ms → HoldsSeen (record { exit = seen.exit; sources = seen.sources; moments = Some moments }) (put (name_of key.Moments) (array ds) ms)
 moments_taken ds ms seen sources moments there some is holds = record {
   exit = λ x same. other_exit (name_of key.Moments) (array ds) ms (differ _ _ refl) ∙ holds.exit x same;
   sources = λ ss same. other_sources (name_of key.Moments) (array ds) ms (differ _ _ refl) ∙ holds.sources ss same;
   moments = λ ss mm same are.
-      ap (λ o. some_with o >>= (λ given. moments_of ss given (record { scopes = []; variables = [] }))) (get_member-put (name_of key.Moments) (array ds) ms)
-      ∙ rw some (ap (λ xs. moments_of xs ds (record { scopes = []; variables = [] })) (some_same ss sources (sym same ∙ there)) ∙ is ∙ ap Ok (some_same moments mm are));
+      ap (λ o. some_with o >>= (λ given. moments_of ss given none_numbered)) (get_member-put (name_of key.Moments) (array ds) ms)
+      ∙ rw some (ap (λ xs. moments_of xs ds none_numbered) (some_same ss sources (sym same ∙ there)) ∙ is ∙ ap Ok (some_same moments mm are));
 }
 
 -- all came
 pub whole : (ms : Members) (seen : Seen) (exit : ℤ) (sources : List RecordedSource) (moments : List Moment × Numbered) → seen.exit ≡ Some exit → seen.sources ≡ Some sources → seen.moments ≡ Some moments → HoldsSeen seen ms
-    → recording_of (object ms) ≡ Ok (record { exit = exit; sources = sources; moments = moments.0; scopes = moments.1.scopes; variables = moments.1.variables })
+    → recording_of (object ms) ≡ Ok (record { exit = exit; sources = sources; moments = moments.0; scopes = moments.1.scopes; variables = moments.1.variables; untold = moments.1.untold })
 unfolding recording_of
 whole ms seen exit sources moments e s m holds =
     let texts = bind_ok (few_items key.Sources (object ms)) (λ given. each_source given []) sources (holds.sources sources s) in
-    let given = bind_ok (some_items key.Moments (object ms)) (λ given. moments_of sources given (record { scopes = []; variables = [] })) moments (holds.moments sources moments s m) in
+    let given = bind_ok (some_items key.Moments (object ms)) (λ given. moments_of sources given none_numbered) moments (holds.moments sources moments s m) in
     rw (holds.exit exit e, texts.1, texts.2, given.1, given.2) refl

@@ -1,12 +1,16 @@
 -- Worked examples of reading a recording, each shown by computation.
-use Rattle.std.proofs.Common.{◌≡◌, List, ℕ, [], ◌∷◌, codes, true, false, Some, None, Ok, Err, negsuc, refl}
+use Rattle.std.proofs.Common.{◌≡◌, List, ℕ, [], ◌∷◌, codes, true, false, Option, Some, None, Ok, Err, negsuc, refl, replicate}
 use Rattle.serde_json.specs.Data.{Data, boolean, null, number, unsigned, negative, string, array, object, Items, no_items, item, Members, no_members, put}
 use Rattle.dap_recording.proofs.IsRead.{is_read}
 use Rattle.dap_recording.proofs.ThreeMoments.{three_moments}
-use Rattle.dap_recording.specs.Reading.{recording_of, verdict_of, variables_of, source_of, moments_of, moment_of, thread_of, frame_of, scopes_of, scope_of}
+use Rattle.dap_recording.specs.Reading.{Read, Numbered, none_numbered, recording_of, verdict_of, variables_of, source_of, moments_of, moment_of, thread_of, frame_of, scopes_of, scope_of, stop_of}
 use Rattle.dap_recording.specs.Recording.{IsRecording}
 use Rattle.dap_recording.specs.declared.reading.RecordingFault.TheVariants.{NotJson, NotObject, BadKey}
 use Rattle.dap_recording.specs.declared.reading.RecordingKey.TheVariants as key
+use Rattle.dap_recording.specs.declared.reading.Teller.{Teller}
+use Rattle.dap_recording.specs.declared.reading.Teller.TheVariants as teller
+use Rattle.dap_recording.specs.declared.recording.RecordedSource.{RecordedSource}
+use Rattle.dap_debuggee.specs.declared.answers.Frame.{Frame}
 
 -- ---- data in short
 
@@ -67,7 +71,7 @@ abbrev three_moments_json : Data
 three_moments_json = with_parts (whole 0) (one source_a) (array (item moment_0 (item moment_1 (item moment_2 no_items))))
 
 three_moments_are_read : recording_of three_moments_json ≡ Ok three_moments
-unfolding recording_of source_of moments_of moment_of thread_of frame_of scopes_of scope_of
+unfolding recording_of source_of moments_of moment_of thread_of frame_of scopes_of scope_of stop_of
 three_moments_are_read = refl
 
 -- so it is a recording
@@ -83,16 +87,16 @@ no_object : verdict_of (Some none) ≡ Err NotObject
 no_object = refl
 
 no_moments : verdict_of (Some (with_parts (whole 0) none none)) ≡ Err (BadKey key.Moments)
-unfolding recording_of source_of moments_of moment_of thread_of frame_of scopes_of scope_of
+unfolding recording_of source_of moments_of moment_of thread_of frame_of scopes_of scope_of stop_of
 no_moments = refl
 
 -- the least and the greatest exit are read, so the next key is bad
 exits : (recording_of (with_parts (whole 2147483647) null none) ≡ Err key.Sources) × (recording_of (with_parts (number (negative (negsuc 2147483647))) null none) ≡ Err key.Sources)
-unfolding recording_of source_of moments_of moment_of thread_of frame_of scopes_of scope_of
+unfolding recording_of source_of moments_of moment_of thread_of frame_of scopes_of scope_of stop_of
 exits = (refl, refl)
 
 no_exits : (recording_of (with_parts (whole 2147483648) none none) ≡ Err key.Exit) × (recording_of (with_parts (number (negative (negsuc 2147483648))) none none) ≡ Err key.Exit) × (recording_of (with_parts null none none) ≡ Err key.Exit) × (recording_of (object no_members) ≡ Err key.Exit)
-unfolding recording_of source_of moments_of moment_of thread_of frame_of scopes_of scope_of
+unfolding recording_of source_of moments_of moment_of thread_of frame_of scopes_of scope_of stop_of
 no_exits = (refl, refl, refl, refl)
 
 -- ---- sources
@@ -101,25 +105,25 @@ abbrev source_with : Members → Data
 source_with ms = object (put (codes "name") (text (codes "b")) ms)
 
 path_may_be_absent : source_of (source_with (put (codes "text") (text (codes "x")) no_members)) ≡ Ok (record { name = codes "b"; path = None; text = codes "x"; on_disk = false; lines = 1 })
-unfolding recording_of source_of moments_of moment_of thread_of frame_of scopes_of scope_of
+unfolding recording_of source_of moments_of moment_of thread_of frame_of scopes_of scope_of stop_of
 path_may_be_absent = refl
 
 -- a file that the client reads itself
 file_on_disk : source_of (source_with (put (codes "onDisk") (boolean true) (put (codes "path") (text (codes "/b")) (put (codes "text") (text (codes "x")) no_members)))) ≡ Ok (record { name = codes "b"; path = Some (codes "/b"); text = codes "x"; on_disk = true; lines = 1 })
-unfolding recording_of source_of moments_of moment_of thread_of frame_of scopes_of scope_of
+unfolding recording_of source_of moments_of moment_of thread_of frame_of scopes_of scope_of stop_of
 file_on_disk = refl
 
 -- it is read after the text, and null is bad there
 on_disk_comes_last : (source_of (source_with (put (codes "onDisk") null (put (codes "text") (text (codes "x")) no_members))) ≡ Err key.OnDisk) × (source_of (source_with (put (codes "onDisk") null no_members)) ≡ Err key.Text)
-unfolding recording_of source_of moments_of moment_of thread_of frame_of scopes_of scope_of
+unfolding recording_of source_of moments_of moment_of thread_of frame_of scopes_of scope_of stop_of
 on_disk_comes_last = (refl, refl)
 
 null_is_no_path : source_of (source_with (put (codes "path") null (put (codes "text") (text (codes "x")) no_members))) ≡ Err key.Path
-unfolding recording_of source_of moments_of moment_of thread_of frame_of scopes_of scope_of
+unfolding recording_of source_of moments_of moment_of thread_of frame_of scopes_of scope_of stop_of
 null_is_no_path = refl
 
 source_is_an_object : recording_of (with_parts (whole 0) (one null) none) ≡ Err key.Sources
-unfolding recording_of source_of moments_of moment_of thread_of frame_of scopes_of scope_of
+unfolding recording_of source_of moments_of moment_of thread_of frame_of scopes_of scope_of stop_of
 source_is_an_object = refl
 
 -- ---- variables
@@ -150,38 +154,130 @@ abbrev of_frame : Members → Data
 of_frame ms = of_threads (item (thread 1 (item (object ms) no_items)) no_items)
 
 no_threads : recording_of (of_threads no_items) ≡ Err key.Thread
-unfolding recording_of source_of moments_of moment_of thread_of frame_of scopes_of scope_of
+unfolding recording_of source_of moments_of moment_of thread_of frame_of scopes_of scope_of stop_of
 no_threads = refl
 
 thread_of_another_id : recording_of (of_threads (item (thread 2 (item (frame (codes "f") 1) no_items)) no_items)) ≡ Err key.Thread
-unfolding recording_of source_of moments_of moment_of thread_of frame_of scopes_of scope_of
+unfolding recording_of source_of moments_of moment_of thread_of frame_of scopes_of scope_of stop_of
 thread_of_another_id = refl
 
 same_id_again : recording_of (of_threads (item (thread 1 (item (frame (codes "f") 1) no_items)) (item (thread 1 no_items) no_items))) ≡ Err key.Id
-unfolding recording_of source_of moments_of moment_of thread_of frame_of scopes_of scope_of
+unfolding recording_of source_of moments_of moment_of thread_of frame_of scopes_of scope_of stop_of
 same_id_again = refl
 
 no_frames : recording_of (of_threads (item (thread 1 no_items) no_items)) ≡ Err key.Frames
-unfolding recording_of source_of moments_of moment_of thread_of frame_of scopes_of scope_of
+unfolding recording_of source_of moments_of moment_of thread_of frame_of scopes_of scope_of stop_of
 no_frames = refl
 
 lines_of_the_source : (recording_of (of_frame (frame_members (codes "f") 0)) ≡ Err key.Line) × (recording_of (of_frame (frame_members (codes "f") 4)) ≡ Err key.Line)
-unfolding recording_of source_of moments_of moment_of thread_of frame_of scopes_of scope_of
+unfolding recording_of source_of moments_of moment_of thread_of frame_of scopes_of scope_of stop_of
 lines_of_the_source = (refl, refl)
 
 one_source : recording_of (of_frame (put (codes "source") (whole 1) (frame_members (codes "f") 1))) ≡ Err key.Source
-unfolding recording_of source_of moments_of moment_of thread_of frame_of scopes_of scope_of
+unfolding recording_of source_of moments_of moment_of thread_of frame_of scopes_of scope_of stop_of
 one_source = refl
 
 null_is_no_scopes : recording_of (of_frame (put (codes "scopes") null (frame_members (codes "f") 1))) ≡ Err key.Scopes
-unfolding recording_of source_of moments_of moment_of thread_of frame_of scopes_of scope_of
+unfolding recording_of source_of moments_of moment_of thread_of frame_of scopes_of scope_of stop_of
 null_is_no_scopes = refl
 
 null_is_no_output : recording_of (recorded (item (object (put (codes "output") null (moment_members (item (thread 1 (item (frame (codes "f") 1) no_items)) no_items)))) no_items)) ≡ Err key.Output
-unfolding recording_of source_of moments_of moment_of thread_of frame_of scopes_of scope_of
+unfolding recording_of source_of moments_of moment_of thread_of frame_of scopes_of scope_of stop_of
 null_is_no_output = refl
 
 -- all keys of a moment are tested before the next moment
 first_moment_first : recording_of (recorded (item (object (put (codes "waits") null (moment_members (item (thread 1 (item (frame (codes "f") 1) no_items)) no_items)))) (item null no_items))) ≡ Err key.Waits
-unfolding recording_of source_of moments_of moment_of thread_of frame_of scopes_of scope_of
+unfolding recording_of source_of moments_of moment_of thread_of frame_of scopes_of scope_of stop_of
 first_moment_first = refl
+
+-- ---- a stop of a moment's own
+
+abbrev words : ℕ → Data
+words n = text (replicate n 97)
+
+abbrev one_thread : Items
+one_thread = item (thread 1 (item (frame (codes "f") 1) no_items)) no_items
+
+abbrev with_stop : Data → Data → Data → Data
+with_stop reason description its_text = recorded (item (object (put (codes "stop") reason (put (codes "description") description (put (codes "text") its_text (moment_members one_thread))))) no_items)
+
+stops_that_are_too_long : (recording_of (with_stop (words 65) (words 0) (words 0)) ≡ Err key.Stop) × (recording_of (with_stop (words 0) (words 129) (words 0)) ≡ Err key.Description) × (recording_of (with_stop (words 0) (words 0) (words 129)) ≡ Err key.Text)
+unfolding recording_of source_of moments_of moment_of thread_of frame_of scopes_of scope_of stop_of
+stops_that_are_too_long = (refl, refl, refl)
+
+null_is_no_stop : (recording_of (with_stop null null null) ≡ Err key.Stop) × (recording_of (with_stop (words 1) null null) ≡ Err key.Description) × (recording_of (with_stop (words 1) (words 1) null) ≡ Err key.Text)
+unfolding recording_of source_of moments_of moment_of thread_of frame_of scopes_of scope_of stop_of
+null_is_no_stop = (refl, refl, refl)
+
+-- `waits` is tested first
+stop_comes_after_waits : recording_of (recorded (item (object (put (codes "stop") null (put (codes "waits") null (moment_members one_thread)))) no_items)) ≡ Err key.Waits
+unfolding recording_of source_of moments_of moment_of thread_of frame_of scopes_of scope_of stop_of
+stop_comes_after_waits = refl
+
+abbrev stop_told : Data → Data → Data
+stop_told reason description = object (put (codes "stop") reason (put (codes "description") description no_members))
+
+-- at most 64 bytes, and 128
+longest_stop : stop_of (stop_told (words 64) (words 128)) ≡ Ok (Some (record { reason = replicate 64 97; description = Some (replicate 128 97); text = None }))
+unfolding recording_of source_of moments_of moment_of thread_of frame_of scopes_of scope_of stop_of
+longest_stop = refl
+
+-- without a reason they are tested, and do not count
+described_alone : (stop_of (object (put (codes "description") (words 128) (put (codes "text") (words 128) no_members))) ≡ Ok None) × (stop_of (object (put (codes "description") (words 129) no_members)) ≡ Err key.Description) × (stop_of (object (put (codes "text") (words 129) no_members)) ≡ Err key.Text) × (stop_of (object no_members) ≡ Ok None)
+unfolding recording_of source_of moments_of moment_of thread_of frame_of scopes_of scope_of stop_of
+described_alone = (refl, refl, refl, refl)
+
+-- ---- frames that a host tells
+
+abbrev sources_a : List RecordedSource
+sources_a = record { name = codes "a.c"; path = None; text = codes "one\n"; on_disk = false; lines = 1 } ∷ []
+
+abbrev told_by : Teller → Members → Read (Frame × Numbered)
+told_by by ms = frame_of by sources_a (object (put (codes "name") (text (codes "f")) ms)) none_numbered
+
+abbrev first : Option ℕ → ℕ → List ℕ → Frame × Numbered
+first source line untold = (record { object = 0; name = codes "f"; source = source; line = line }, record { scopes = [] ∷ []; variables = []; untold = untold })
+
+-- the line is not looked at without a source
+frame_without_a_source : (told_by teller.Host no_members ≡ Ok (first None 0 [])) × (told_by teller.Host (put (codes "line") (whole 7) no_members) ≡ Ok (first None 0 [])) × (told_by teller.Host (put (codes "line") null no_members) ≡ Ok (first None 0 []))
+unfolding recording_of source_of moments_of moment_of thread_of frame_of scopes_of scope_of stop_of
+frame_without_a_source = (refl, refl, refl)
+
+recorded_frame_without_a_source : (told_by teller.Recording no_members ≡ Err key.Source) × (told_by teller.Recording (put (codes "line") (whole 1) no_members) ≡ Err key.Source)
+unfolding recording_of source_of moments_of moment_of thread_of frame_of scopes_of scope_of stop_of
+recorded_frame_without_a_source = (refl, refl)
+
+-- a source that is told is one of those there are, and has the line
+frame_with_a_source : (told_by teller.Host (put (codes "source") null no_members) ≡ Err key.Source) × (told_by teller.Host (put (codes "source") (whole 1) no_members) ≡ Err key.Source) × (told_by teller.Host (put (codes "source") (whole 0) no_members) ≡ Err key.Line) × (told_by teller.Host (put (codes "source") (whole 0) (put (codes "line") (whole 2) no_members)) ≡ Err key.Line) × (told_by teller.Host (put (codes "source") (whole 0) (put (codes "line") (whole 1) no_members)) ≡ Ok (first (Some 0) 1 []))
+unfolding recording_of source_of moments_of moment_of thread_of frame_of scopes_of scope_of stop_of
+frame_with_a_source = (refl, refl, refl, refl, refl)
+
+-- ---- scopes that are told without their variables
+
+abbrev scope_without : List ℕ → Data
+scope_without name = object (put (codes "name") (text name) no_members)
+
+abbrev scope_with : List ℕ → Data → Data
+scope_with name variables = object (put (codes "name") (text name) (put (codes "variables") variables no_members))
+
+abbrev scopes_told : Items → Read (Frame × Numbered)
+scopes_told scopes = told_by teller.Host (put (codes "scopes") (array scopes) no_members)
+
+-- no key is untold, no elements are told
+untold_scope : scopes_told (item (scope_without (codes "A")) (item (scope_with (codes "B") none) no_items))
+    ≡ Ok (record { object = 0; name = codes "f"; source = None; line = 0 }, record { scopes = (record { name = codes "A"; holder = 0 } ∷ record { name = codes "B"; holder = 1 } ∷ []) ∷ []; variables = [] ∷ [] ∷ []; untold = 0 ∷ [] })
+unfolding recording_of source_of moments_of moment_of thread_of frame_of scopes_of scope_of stop_of
+untold_scope = refl
+
+-- by its number, which comes after those of the variables before it
+untold_after_others : scopes_told (item (scope_with (codes "A") (one variable_p)) (item (scope_without (codes "B")) no_items))
+    ≡ Ok (
+      record { object = 0; name = codes "f"; source = None; line = 0 },
+      record {
+        scopes = (record { name = codes "A"; holder = 1 } ∷ record { name = codes "B"; holder = 2 } ∷ []) ∷ [];
+        variables = (record { name = codes "a"; value = codes "7"; holder = None } ∷ []) ∷ (record { name = codes "p"; value = codes "P"; holder = Some 0 } ∷ []) ∷ [] ∷ [];
+        untold = 2 ∷ [];
+      },
+    )
+unfolding recording_of source_of moments_of moment_of thread_of frame_of scopes_of scope_of stop_of
+untold_after_others = refl

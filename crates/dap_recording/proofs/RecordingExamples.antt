@@ -1,15 +1,16 @@
 -- Worked examples of what holds of recordings, each shown by computation.
-use Rattle.std.proofs.Common.{◌≡◌, List, ℕ, [], ◌∷◌, codes, true, false, Some, pos, refl, arith}
+use Rattle.std.proofs.Common.{◌≡◌, List, ℕ, [], ◌∷◌, codes, true, false, Option, Some, None, pos, refl, arith, replicate}
 use Rattle.dap_debuggee.specs.declared.answers.Frame.{Frame}
 use Rattle.dap_debuggee.specs.declared.answers.Scope.{Scope}
 use Rattle.dap_debuggee.specs.declared.answers.Variable.{Variable}
-use Rattle.dap_recording.specs.Recording.{line_count, is_rising, are_distinct, is_moment, depth, top, id_at, objects, holders_of, HasOwnNumbers}
+use Rattle.dap_recording.specs.Recording.{line_count, is_rising, are_distinct, is_moment, has_short_stop, depth, top, id_at, objects, holders_of, HasOwnNumbers}
+use Rattle.dap_recording.specs.declared.recording.OwnStop.{OwnStop}
 use Rattle.dap_recording.specs.declared.recording.Moment.{Moment}
 use Rattle.dap_recording.specs.declared.recording.RecordedThread.{RecordedThread}
 use Rattle.dap_recording.proofs.ThreeMoments.{three_moments}
 
 abbrev frame : ℕ → ℕ → ℕ → Frame
-frame object source line = record { object = object; name = codes "f"; source = source; line = line }
+frame object source line = record { object = object; name = codes "f"; source = Some source; line = line }
 
 -- ---- recordings
 
@@ -26,7 +27,7 @@ distinct : (are_distinct (thread 1 [] ∷ thread 2 [] ∷ []) ≡ true) × (are_
 distinct = (refl, refl)
 
 abbrev moment : ℕ → List RecordedThread → Moment
-moment place threads = record { threads = threads; thread = place; output = []; waits = false; frames = record { from = 0; to = 0 }; holders = record { from = 0; to = 0 } }
+moment place threads = record { threads = threads; thread = place; output = []; waits = false; stop = None; frames = record { from = 0; to = 0 }; holders = record { from = 0; to = 0 } }
 
 -- two threads, and the second one stands here
 abbrev two : Moment
@@ -38,6 +39,25 @@ parts = (refl, refl, refl, refl)
 moments : (is_moment 1 two ≡ true) × (is_moment 0 two ≡ false) × (is_moment 1 (moment 2 two.threads) ≡ false) × (is_moment 1 (moment 0 (thread 7 [] ∷ [])) ≡ false) × (is_moment 1 (moment 0 (thread 7 (frame 3 0 1 ∷ []) ∷ thread 8 (frame 3 0 1 ∷ []) ∷ [])) ≡ false) × (is_moment 1 (moment 0 []) ≡ false)
 moments = (refl, refl, refl, refl, refl, refl)
 
+-- a frame without a source is one of any sources
+abbrev bare : Frame
+bare = record { object = 3; name = codes "f"; source = None; line = 0 }
+
+frames_without_a_source : (is_moment 0 (moment 0 (thread 7 (bare ∷ []) ∷ [])) ≡ true) × (is_moment 1 (moment 0 (thread 7 (frame 2 0 1 ∷ bare ∷ []) ∷ [])) ≡ true) × (is_moment 1 (moment 0 (thread 7 (record bare { line = 1 } ∷ []) ∷ [])) ≡ false)
+frames_without_a_source = (refl, refl, refl)
+
+-- ---- stops of moments
+
+abbrev stopping : Option OwnStop → Moment
+stopping stop = record two { stop = stop }
+
+-- the longest reason, description and text
+short_stops : (has_short_stop (stopping None) ≡ true) × (has_short_stop (stopping (Some (record { reason = replicate 64 97; description = Some (replicate 128 97); text = Some (replicate 128 97) }))) ≡ true)
+short_stops = (refl, refl)
+
+long_stops : (has_short_stop (stopping (Some (record { reason = replicate 65 97; description = None; text = None }))) ≡ false) × (has_short_stop (stopping (Some (record { reason = []; description = Some (replicate 129 97); text = None }))) ≡ false) × (has_short_stop (stopping (Some (record { reason = []; description = None; text = Some (replicate 129 97) }))) ≡ false)
+long_stops = (refl, refl, refl)
+
 -- the number of a scope, and then that of a variable
 holders : holders_of three_moments ≡ 1 ∷ 0 ∷ []
 holders = refl
@@ -45,7 +65,7 @@ holders = refl
 -- ---- numbers of a moment
 
 abbrev spanned : ℕ → ℕ → Moment
-spanned frames holders = record { threads = thread 7 (frame 0 0 1 ∷ []) ∷ []; thread = 0; output = []; waits = false; frames = record { from = 0; to = frames }; holders = record { from = 0; to = holders } }
+spanned frames holders = record { threads = thread 7 (frame 0 0 1 ∷ []) ∷ []; thread = 0; output = []; waits = false; stop = None; frames = record { from = 0; to = frames }; holders = record { from = 0; to = holders } }
 
 abbrev scope : ℕ → Scope
 scope holder = record { name = codes "s"; holder = holder }

@@ -7,15 +7,17 @@ use Rattle.std.specs.Ordering.{nat_cmp}
 use Rattle.std.specs.Cmp.Lexicographic.{slice_cmp}
 use Rattle.serde_json.specs.Data.{Data, array, object, Items, no_items, item, Members, no_members, member}
 use Rattle.serde_json.specs.Find.{as_str, as_bool, as_array}
-use Rattle.dap_recording.specs.Reading.{required_at, optional_or, element, value_at, some_items, line_of, source_place, lines_at, new_id, thread_place, Holders, holder_of, with_holder, variable_of, variables_of, each_variable, variables_within, read_variables, Numbered, each, scope_of, scopes_of, frame_of, thread_of, moment_of, moments_of}
+use Rattle.dap_recording.specs.Reading.{required_at, optional_or, element, value_at, some_items, frame_source, frame_line, untold_of, stop_of, none_numbered, new_id, thread_place, Holders, holder_of, with_holder, variable_of, variables_of, each_variable, variables_within, read_variables, Numbered, each, scope_of, scopes_of, frame_of, thread_of, moment_of}
 use Rattle.dap_recording.specs.Recording.{IsWithin, HasOwnNumbers}
 use Rattle.dap_recording.specs.RecordingKey.{name_of}
 use Rattle.dap_debuggee.specs.declared.answers.Frame.{Frame}
 use Rattle.dap_debuggee.specs.declared.answers.Scope.{Scope}
 use Rattle.dap_debuggee.specs.declared.answers.Variable.{Variable}
 use Rattle.dap_recording.specs.declared.reading.RecordingKey.TheVariants as key
+use Rattle.dap_recording.specs.declared.reading.Teller.{Teller}
 use Rattle.dap_recording.specs.declared.recording.RecordedSource.{RecordedSource}
 use Rattle.dap_recording.specs.declared.recording.RecordedThread.{RecordedThread}
+use Rattle.dap_recording.specs.declared.recording.OwnStop.{OwnStop}
 use Rattle.dap_recording.specs.declared.recording.Moment.{Moment}
 use Rattle.dap_recording.proofs.HoldersRead.{by_order}
 use Rattle.dap_recording.proofs.ReadSteps.{some_same, ok_same, then_ok, with_ok, each_holds}
@@ -229,12 +231,11 @@ scope_read base before found holders d next e p =
       longer = omega (arith, more, p.longer);
     })))
 
-scopes_read : (base : Holders) (d : Data) (holders : Holders) (r : List Scope × Holders) → scopes_of d holders ≡ Ok r → Added base holders → ScopesRead base holders r
+scopes_read : (base : Holders) (given : Items) (holders : Holders) (r : List Scope × Holders) → scopes_of given holders ≡ Ok r → Added base holders → ScopesRead base holders r
 unfolding scopes_of
-scopes_read base d holders r e a =
-    with_ok (optional_or as_array no_items key.Scopes d) _ r e (λ given is e1.
+scopes_read base given holders r e a =
     let first : ScopesRead base holders ([], holders) = record { read = record { added = a; found = at_none (λ i s. Between (length base) (length holders) s.holder) }; longer = omega arith } in
-    each_holds (λ earlier. scope_of) (ScopesRead base holders) (λ found s x next is_next p. scope_read base holders found s x next is_next p) given [] holders r e1 first)
+    each_holds (λ earlier. scope_of) (ScopesRead base holders) (λ found s x next is_next p. scope_read base holders found s x next is_next p) given [] holders r e first
 
 -- ---- frames and threads
 
@@ -256,9 +257,9 @@ record FramesRead (base before : Numbered) (r : List Frame × Numbered) : Type 0
   pub frames : OfFrames (length base.scopes) (length r.1.scopes) r.0
   pub longer : length before.scopes ≤ length r.1.scopes
 
-frame_added : (base before : Numbered) (found : List Frame) (s : Numbered) (frame : Frame) (scopes : List Scope × Holders) → frame.object ≡ length s.scopes → ScopesRead base.variables s.variables scopes
-    → FramesRead base before (found, s) → FramesRead base before (found ++ frame ∷ [], record { scopes = s.scopes ++ scopes.0 ∷ []; variables = scopes.1 })
-frame_added base before found s frame scopes numbered read p =
+frame_added : (base before : Numbered) (found : List Frame) (s : Numbered) (frame : Frame) (scopes : List Scope × Holders) (untold : List ℕ) → frame.object ≡ length s.scopes → ScopesRead base.variables s.variables scopes
+    → FramesRead base before (found, s) → FramesRead base before (found ++ frame ∷ [], record { scopes = s.scopes ++ scopes.0 ∷ []; variables = scopes.1; untold = untold })
+frame_added base before found s frame scopes untold numbered read p =
     let count = length-append s.scopes (scopes.0 ∷ []) in
     let more : length s.scopes ≤ length (s.scopes ++ scopes.0 ∷ []) = omega (arith, count) in
     let place : Between (length base.scopes) (length (s.scopes ++ scopes.0 ∷ [])) frame.object = record { from = omega (arith, numbered, p.since.begins.longer); to = omega (arith, numbered, count) } in
@@ -275,31 +276,32 @@ frame_added base before found s frame scopes numbered read p =
       longer = omega (arith, more, p.longer);
     }
 
-frame_read : (base before : Numbered) (sources : List RecordedSource) (found : List Frame) (s : Numbered) (d : Data) (next : Frame × Numbered) → frame_of sources d s ≡ Ok next → FramesRead base before (found, s) → FramesRead base before (found ++ next.0 ∷ [], next.1)
+frame_read : (base before : Numbered) (by : Teller) (sources : List RecordedSource) (found : List Frame) (s : Numbered) (d : Data) (next : Frame × Numbered) → frame_of by sources d s ≡ Ok next → FramesRead base before (found, s) → FramesRead base before (found ++ next.0 ∷ [], next.1)
 unfolding frame_of
-frame_read base before sources found s d next e p =
+frame_read base before by sources found s d next e p =
     with_ok (required_at as_str key.Name d) _ next (then_ok (element key.Frames d) _ next e) (λ name named e1.
-    with_ok (required_at (source_place sources) key.Source d) _ next e1 (λ source placed e2.
-    with_ok (required_at (line_of (lines_at sources source)) key.Line d) _ next e2 (λ line lined e3.
-    with_ok (scopes_of d s.variables) _ next e3 (λ scopes scoped e4.
+    with_ok (frame_source by sources d) _ next e1 (λ source placed e2.
+    with_ok (frame_line sources source d) _ next e2 (λ line lined e3.
+    with_ok (optional_or as_array no_items key.Scopes d) _ next e3 (λ given listed e4.
+    with_ok (scopes_of given s.variables) _ next e4 (λ scopes scoped e5.
     let frame : Frame = record { object = length s.scopes; name = name; source = source; line = line } in
-    let after : Numbered = record { scopes = s.scopes ++ scopes.0 ∷ []; variables = scopes.1 } in
-    subst (λ (x : Frame × Numbered). FramesRead base before (found ++ x.0 ∷ [], x.1)) (ok_same (frame, after) next e4)
-    (frame_added base before found s frame scopes refl (scopes_read base.variables d s.variables scopes scoped p.since.added) p)))))
+    let after : Numbered = record { scopes = s.scopes ++ scopes.0 ∷ []; variables = scopes.1; untold = s.untold ++ untold_of given scopes.0 } in
+    subst (λ (x : Frame × Numbered). FramesRead base before (found ++ x.0 ∷ [], x.1)) (ok_same (frame, after) next e5)
+    (frame_added base before found s frame scopes after.untold refl (scopes_read base.variables given s.variables scopes scoped p.since.added) p))))))
 
 record ThreadsRead (base : Numbered) (r : List RecordedThread × Numbered) : Type 0 where
   pub since : Since base r.1
   pub threads : OfThreads (length base.scopes) (length r.1.scopes) r.0
 
-thread_read : (base : Numbered) (sources : List RecordedSource) (found : List RecordedThread) (s : Numbered) (d : Data) (next : RecordedThread × Numbered) → thread_of sources found d s ≡ Ok next → ThreadsRead base (found, s) → ThreadsRead base (found ++ next.0 ∷ [], next.1)
+thread_read : (base : Numbered) (by : Teller) (sources : List RecordedSource) (found : List RecordedThread) (s : Numbered) (d : Data) (next : RecordedThread × Numbered) → thread_of by sources found d s ≡ Ok next → ThreadsRead base (found, s) → ThreadsRead base (found ++ next.0 ∷ [], next.1)
 unfolding thread_of
-thread_read base sources found s d next e p =
+thread_read base by sources found s d next e p =
     with_ok (required_at (new_id found) key.Id d) _ next (then_ok (element key.Threads d) _ next e) (λ id new e1.
     with_ok (required_at as_str key.Name d) _ next e1 (λ name named e2.
     with_ok (some_items key.Frames d) _ next e2 (λ given some e3.
-    with_ok (each (λ earlier. frame_of sources) given [] s) _ next e3 (λ frames read e4.
+    with_ok (each (λ earlier. frame_of by sources) given [] s) _ next e3 (λ frames read e4.
     let first : FramesRead base s ([], s) = record { since = p.since; frames = at_none (λ i f. Between (length base.scopes) (length s.scopes) f.object); longer = omega arith } in
-    let all = each_holds (λ earlier. frame_of sources) (FramesRead base s) (λ fs t x n is q. frame_read base s sources fs t x n is q) given [] s frames read first in
+    let all = each_holds (λ earlier. frame_of by sources) (FramesRead base s) (λ fs t x n is q. frame_read base s by sources fs t x n is q) given [] s frames read first in
     let thread : RecordedThread = record { id = id; name = name; frames = frames.0 } in
     subst (λ (x : RecordedThread × Numbered). ThreadsRead base (found ++ x.0 ∷ [], x.1)) (ok_same (thread, frames.1) next e4)
     (record {
@@ -319,9 +321,9 @@ later_too scopes later_scopes variables later_variables m b c p = record {
   of_variables = λ n i xs x k within is at_x has. p.of_variables n i xs x k within (sym (c.same n (omega (arith, within.to, p.holders_stand))) ∙ is) at_x has;
 }
 
-own_numbers : (base : Numbered) (threads : List RecordedThread × Numbered) (thread : ℕ) (output : List ℕ) (waits : Bool) → ThreadsRead base threads
-    → HasOwnNumbers threads.1.scopes threads.1.variables (record { threads = threads.0; thread = thread; output = output; waits = waits; frames = record { from = length base.scopes; to = length threads.1.scopes }; holders = record { from = length base.variables; to = length threads.1.variables } })
-own_numbers base threads thread output waits p = record {
+own_numbers : (base : Numbered) (threads : List RecordedThread × Numbered) (thread : ℕ) (output : List ℕ) (waits : Bool) (stop : Option OwnStop) → ThreadsRead base threads
+    → HasOwnNumbers threads.1.scopes threads.1.variables (record { threads = threads.0; thread = thread; output = output; waits = waits; stop = stop; frames = record { from = length base.scopes; to = length threads.1.scopes }; holders = record { from = length base.variables; to = length threads.1.variables } })
+own_numbers base threads thread output waits stop p = record {
   frames_stand = omega arith;
   holders_stand = omega arith;
   of_frames = λ t i th frame is at_f. p.threads t th is i frame at_f;
@@ -333,23 +335,23 @@ own_numbers base threads thread output waits p = record {
 abbrev MomentsRead : List Moment × Numbered → Type 0
 MomentsRead r = AtEach (λ i m. HasOwnNumbers r.1.scopes r.1.variables m) r.0
 
-moment_read : (sources : List RecordedSource) (found : List Moment) (s : Numbered) (d : Data) (next : Moment × Numbered) → moment_of sources d s ≡ Ok next → MomentsRead (found, s) → MomentsRead (found ++ next.0 ∷ [], next.1)
+moment_read : (by : Teller) (sources : List RecordedSource) (found : List Moment) (s : Numbered) (d : Data) (next : Moment × Numbered) → moment_of by sources d s ≡ Ok next → MomentsRead (found, s) → MomentsRead (found ++ next.0 ∷ [], next.1)
 unfolding moment_of
-moment_read sources found s d next e p =
+moment_read by sources found s d next e p =
     with_ok (required_at as_array key.Threads d) _ next (then_ok (element key.Moments d) _ next e) (λ given array e1.
-    with_ok (each (thread_of sources) given [] s) _ next e1 (λ threads read e2.
+    with_ok (each (thread_of by sources) given [] s) _ next e1 (λ threads read e2.
     with_ok (required_at (thread_place threads.0) key.Thread d) _ next e2 (λ thread placed e3.
     with_ok (optional_or as_str [] key.Output d) _ next e3 (λ output written e4.
     with_ok (optional_or as_bool false key.Waits d) _ next e4 (λ waits held e5.
+    with_ok (stop_of d) _ next e5 (λ stop stopped e6.
     let first : ThreadsRead s ([], s) = record { since = since_itself s; threads = at_none (λ t th. OfFrames (length s.scopes) (length s.scopes) th.frames) } in
-    let all = each_holds (thread_of sources) (ThreadsRead s) (λ fs t x n is q. thread_read s sources fs t x n is q) given [] s threads read first in
-    let moment : Moment = record { threads = threads.0; thread = thread; output = output; waits = waits; frames = record { from = length s.scopes; to = length threads.1.scopes }; holders = record { from = length s.variables; to = length threads.1.variables } } in
-    subst (λ (x : Moment × Numbered). MomentsRead (found ++ x.0 ∷ [], x.1)) (ok_same (moment, threads.1) next e5)
+    let all = each_holds (thread_of by sources) (ThreadsRead s) (λ fs t x n is q. thread_read s by sources fs t x n is q) given [] s threads read first in
+    let moment : Moment = record { threads = threads.0; thread = thread; output = output; waits = waits; stop = stop; frames = record { from = length s.scopes; to = length threads.1.scopes }; holders = record { from = length s.variables; to = length threads.1.variables } } in
+    subst (λ (x : Moment × Numbered). MomentsRead (found ++ x.0 ∷ [], x.1)) (ok_same (moment, threads.1) next e6)
     (at_each_more (λ i m. HasOwnNumbers threads.1.scopes threads.1.variables m) found moment
     (λ i m is. later_too s.scopes threads.1.scopes s.variables threads.1.variables m all.since.begins all.since.added.begins (p i m is))
-    (own_numbers s threads thread output waits all)))))))
+    (own_numbers s threads thread output waits stop all))))))))
 
-pub spans_read : (sources : List RecordedSource) (ds : Items) (r : List Moment × Numbered) → moments_of sources ds (record { scopes = []; variables = [] }) ≡ Ok r → (i : ℕ) (m : Moment) → slice_get r.0 i ≡ Some m → HasOwnNumbers r.1.scopes r.1.variables m
-unfolding moments_of
-spans_read sources ds r e =
-    each_holds (λ earlier. moment_of sources) MomentsRead (λ found t x next is q. moment_read sources found t x next is q) ds [] (record { scopes = []; variables = [] }) r e (at_none (λ i m. HasOwnNumbers [] [] m))
+pub spans_read : (by : Teller) (sources : List RecordedSource) (ds : Items) (r : List Moment × Numbered) → each (λ earlier. moment_of by sources) ds [] none_numbered ≡ Ok r → (i : ℕ) (m : Moment) → slice_get r.0 i ≡ Some m → HasOwnNumbers r.1.scopes r.1.variables m
+spans_read by sources ds r e =
+    each_holds (λ earlier. moment_of by sources) MomentsRead (λ found t x next is q. moment_read by sources found t x next is q) ds [] none_numbered r e (at_none (λ i m. HasOwnNumbers [] [] m))

@@ -2,7 +2,7 @@
 use Rattle.std.specs.Prelude.{◌≡◌, ℤ, List, [], Some, Ok}
 use Rattle.serde_json.specs.Data.{Members, object}
 use Rattle.dap_json.specs.Steps.{◌>>=◌}
-use Rattle.dap_recording.specs.Reading.{Read, Numbered, required_at, exit_of, few_items, some_items, each_source, moments_of}
+use Rattle.dap_recording.specs.Reading.{Read, Numbered, none_numbered, required_at, exit_of, few_items, some_items, each_source, moments_of}
 use Rattle.dap_recording.specs.declared.reading.RecordingKey.TheVariants as key
 use Rattle.dap_recording.specs.declared.recording.RecordedSource.{RecordedSource}
 use Rattle.dap_recording.specs.declared.recording.Moment.{Moment}
@@ -19,7 +19,7 @@ sources_in ms = do
 abbrev pub moments_in : List RecordedSource → Members → Read (List Moment × Numbered)
 moments_in sources ms = do
   given ← some_items key.Moments (object ms)
-  moments_of sources given (record { scopes = []; variables = [] })
+  moments_of sources given none_numbered
 
 -- what was taken is what these members hold
 pub record HoldsSeen (seen : Seen) (ms : Members) : Type 0 where

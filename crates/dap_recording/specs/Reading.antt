@@ -22,10 +22,13 @@ use Rattle.dap_debuggee.specs.declared.answers.Scope.{Scope}
 use Rattle.dap_debuggee.specs.declared.answers.Variable.{Variable}
 use Rattle.dap_recording.specs.declared.reading.RecordingKey.{RecordingKey}
 use Rattle.dap_recording.specs.declared.reading.RecordingKey.TheVariants as key
+use Rattle.dap_recording.specs.declared.reading.Teller.{Teller}
+use Rattle.dap_recording.specs.declared.reading.Teller.TheVariants as teller
 use Rattle.dap_recording.specs.declared.reading.RecordingFault.{RecordingFault}
 use Rattle.dap_recording.specs.declared.reading.RecordingFault.TheVariants.{NotJson, NotObject, BadKey, OutOfMemory}
 use Rattle.dap_recording.specs.declared.recording.RecordedSource.{RecordedSource}
 use Rattle.dap_recording.specs.declared.recording.RecordedThread.{RecordedThread}
+use Rattle.dap_recording.specs.declared.recording.OwnStop.{OwnStop}
 use Rattle.dap_recording.specs.declared.recording.Moment.{Moment}
 use Rattle.dap_recording.specs.declared.recording.Recording.{Recording}
 
@@ -117,6 +120,10 @@ few_in k d = do
 abbrev pub exit_of : Data → Option ℤ
 exit_of d = if_passes is_code (option_and_then as_i64 (as_number d))
 
+-- a text of at most so many bytes
+abbrev pub short_text : ℕ → Data → Option (List ℕ)
+short_text most d = if_passes (λ text. nat_le (length text) most) (as_str d)
+
 -- of a text with so many lines
 abbrev pub line_of : ℕ → Data → Option ℕ
 line_of lines d = if_passes (λ n. nat_le 1 n && nat_le n lines) (number_of d)
@@ -199,6 +206,11 @@ variable_row d holders = do
 pub record Numbered : Type 0 where
   pub scopes : List (List Scope)
   pub variables : Holders
+  -- the holders of those scopes that are told without their variables
+  pub untold : List ℕ
+
+abbrev pub none_numbered : Numbered
+none_numbered = record { scopes = []; variables = []; untold = [] }
 
 -- elements one after the other, each with those found before it
 abbrev pub each : {A S : Type 0} → (List A → Data → S → Read (A × S)) → Items → List A → S → Read (List A × S)
@@ -215,44 +227,73 @@ scope_of d holders = do
   inner ← read_variables (value_at key.Variables d) holders
   Ok (record { name = name; holder = length inner.1 }, inner.1 ++ inner.0 ∷ [])
 
-unfoldable pub scopes_of : Data → Holders → Read (List Scope × Holders)
-scopes_of d holders = do
-  given ← optional_or as_array no_items key.Scopes d
-  each (λ earlier. scope_of) given [] holders
+unfoldable pub scopes_of : Items → Holders → Read (List Scope × Holders)
+scopes_of given holders = each (λ earlier. scope_of) given [] holders
+
+-- the holders of those of the scopes that have no key `variables`
+abbrev pub untold_of : Items → List Scope → List ℕ
+untold_of (item d ds) (scope ∷ scopes) = if is_some (value_at key.Variables d) then untold_of ds scopes else scope.holder ∷ untold_of ds scopes
+untold_of ds scopes = []
+
+-- the source of a frame: a recording has to tell one, a host may tell none
+abbrev pub frame_source : Teller → List RecordedSource → Data → Read (Option ℕ)
+frame_source teller.Recording sources d = do
+  source ← required_at (source_place sources) key.Source d
+  Ok (Some source)
+frame_source teller.Host sources d = optional_at (source_place sources) key.Source d
+
+-- the line in the source; without one it is 0, whatever is told
+abbrev pub frame_line : List RecordedSource → Option ℕ → Data → Read ℕ
+frame_line sources None d = Ok 0
+frame_line sources (Some source) d = required_at (line_of (lines_at sources source)) key.Line d
 
 -- a frame's number is the count of frames before it
-unfoldable pub frame_of : List RecordedSource → Data → Numbered → Read (Frame × Numbered)
-frame_of sources d numbered = do
+unfoldable pub frame_of : Teller → List RecordedSource → Data → Numbered → Read (Frame × Numbered)
+frame_of by sources d numbered = do
   element key.Frames d
   name ← required_at as_str key.Name d
-  source ← required_at (source_place sources) key.Source d
-  line ← required_at (line_of (lines_at sources source)) key.Line d
-  scopes ← scopes_of d numbered.variables
-  Ok (record { object = length numbered.scopes; name = name; source = source; line = line }, record { scopes = numbered.scopes ++ scopes.0 ∷ []; variables = scopes.1 })
+  source ← frame_source by sources d
+  line ← frame_line sources source d
+  given ← optional_or as_array no_items key.Scopes d
+  scopes ← scopes_of given numbered.variables
+  Ok (record { object = length numbered.scopes; name = name; source = source; line = line }, record { scopes = numbered.scopes ++ scopes.0 ∷ []; variables = scopes.1; untold = numbered.untold ++ untold_of given scopes.0 })
 
-unfoldable pub thread_of : List RecordedSource → List RecordedThread → Data → Numbered → Read (RecordedThread × Numbered)
-thread_of sources earlier d numbered = do
+unfoldable pub thread_of : Teller → List RecordedSource → List RecordedThread → Data → Numbered → Read (RecordedThread × Numbered)
+thread_of by sources earlier d numbered = do
   element key.Threads d
   id ← required_at (new_id earlier) key.Id d
   name ← required_at as_str key.Name d
   given ← some_items key.Frames d
-  frames ← each (λ earlier. frame_of sources) given [] numbered
+  frames ← each (λ earlier. frame_of by sources) given [] numbered
   Ok (record { id = id; name = name; frames = frames.0 }, frames.1)
 
 -- ---- the whole
 
-unfoldable pub moment_of : List RecordedSource → Data → Numbered → Read (Moment × Numbered)
-moment_of sources d numbered = do
+-- a description and a text count beside a reason alone
+abbrev pub stop_with : Option (List ℕ) → Option (List ℕ) → Option (List ℕ) → Option OwnStop
+stop_with reason description text = option_map (λ why. record { reason = why; description = description; text = text }) reason
+
+-- why a run stops at a moment, where it always does
+unfoldable pub stop_of : Data → Read (Option OwnStop)
+stop_of d = do
+  reason ← optional_at (short_text 64) key.Stop d
+  description ← optional_at (short_text 128) key.Description d
+  text ← optional_at (short_text 128) key.Text d
+  Ok (stop_with reason description text)
+
+unfoldable pub moment_of : Teller → List RecordedSource → Data → Numbered → Read (Moment × Numbered)
+moment_of by sources d numbered = do
   element key.Moments d
   given ← required_at as_array key.Threads d
-  threads ← each (thread_of sources) given [] numbered
+  threads ← each (thread_of by sources) given [] numbered
   thread ← required_at (thread_place threads.0) key.Thread d
   output ← optional_or as_str [] key.Output d
   waits ← optional_or as_bool false key.Waits d
-  Ok (record { threads = threads.0; thread = thread; output = output; waits = waits; frames = record { from = length numbered.scopes; to = length threads.1.scopes }; holders = record { from = length numbered.variables; to = length threads.1.variables } }, threads.1)
+  stop ← stop_of d
+  Ok (record { threads = threads.0; thread = thread; output = output; waits = waits; stop = stop; frames = record { from = length numbered.scopes; to = length threads.1.scopes }; holders = record { from = length numbered.variables; to = length threads.1.variables } }, threads.1)
 
 unfoldable pub moments_of : List RecordedSource → Items → Numbered → Read (List Moment × Numbered)
-moments_of sources ds numbered = each (λ earlier. moment_of sources) ds [] numbered
+moments_of sources ds numbered = each (λ earlier. moment_of teller.Recording sources) ds [] numbered
 
 unfoldable pub source_of : Data → Read RecordedSource
 source_of d = do
@@ -281,14 +322,14 @@ recording_of d = do
   texts ← few_items key.Sources d
   sources ← each_source texts []
   given ← some_items key.Moments d
-  moments ← moments_of sources given (record { scopes = []; variables = [] })
-  Ok (record { exit = exit; sources = sources; moments = moments.0; scopes = moments.1.scopes; variables = moments.1.variables })
+  moments ← moments_of sources given none_numbered
+  Ok (record { exit = exit; sources = sources; moments = moments.0; scopes = moments.1.scopes; variables = moments.1.variables; untold = moments.1.untold })
 
--- one moment over sources that were read
+-- one moment that a host tells, over sources that were read
 unfoldable pub alone : List RecordedSource → Data → Read Recording
 alone sources d = do
-  moment ← moment_of sources d (record { scopes = []; variables = [] })
-  Ok (record { exit = pos 0; sources = sources; moments = moment.0 ∷ []; scopes = moment.1.scopes; variables = moment.1.variables })
+  moment ← moment_of teller.Host sources d none_numbered
+  Ok (record { exit = pos 0; sources = sources; moments = moment.0 ∷ []; scopes = moment.1.scopes; variables = moment.1.variables; untold = moment.1.untold })
 
 -- sources, and one moment over them
 abbrev pub alone_over : Data → Data → Read Recording

@@ -1,6 +1,6 @@
 -- What holds of every recording, and what a moment of it is.
 -- The format is this profile's own.
-use Rattle.std.specs.Prelude.{◌≡◌, ℕ, suc, ◌≤◌, ◌<◌, ℤ, pos, Bool, true, ◌&&◌, nat_lt, nat_eq, not, List, [], ◌∷◌, ◌++◌, length, map, Option, Some, option_map, option_and_then, unwrap_or, IsTrue, if◌then◌else◌}
+use Rattle.std.specs.Prelude.{◌≡◌, ℕ, suc, ◌≤◌, ◌<◌, ℤ, pos, Bool, true, ◌&&◌, nat_le, nat_lt, nat_eq, not, List, [], ◌∷◌, ◌++◌, length, map, Option, Some, option_map, option_and_then, unwrap_or, IsTrue, if◌then◌else◌}
 use Rattle.std.specs.List.{list_all, slice_get, flat_map, count_by}
 use Rattle.std.specs.Option.{option_to_list}
 use Rattle.std.specs.Ordering.{int_eq}
@@ -10,6 +10,7 @@ use Rattle.dap_debuggee.specs.declared.answers.Frame.{Frame}
 use Rattle.dap_debuggee.specs.declared.answers.Scope.{Scope}
 use Rattle.dap_debuggee.specs.declared.answers.Variable.{Variable}
 use Rattle.dap_recording.specs.declared.recording.RecordedThread.{RecordedThread}
+use Rattle.dap_recording.specs.declared.recording.OwnStop.{OwnStop}
 use Rattle.dap_recording.specs.declared.recording.Moment.{Moment}
 use Rattle.dap_recording.specs.declared.recording.Recording.{Recording}
 use Rattle.dap_recording.specs.declared.recording.Span.{Span}
@@ -62,6 +63,16 @@ are_distinct (thread ∷ threads) = list_all (λ other. not (int_eq thread.id ot
 abbrev pub is_thread : ℕ → RecordedThread → Bool
 is_thread sources thread = is_int thread.id && (nat_lt 0 (length thread.frames) && list_all (is_frame sources) thread.frames)
 
+-- of at most so many bytes, where there is one
+abbrev pub is_short_text : ℕ → Option (List ℕ) → Bool
+is_short_text most text = unwrap_or (option_map (λ t. nat_le (length t) most) text) true
+
+abbrev pub is_short_stop : OwnStop → Bool
+is_short_stop stop = nat_le (length stop.reason) 64 && (is_short_text 128 stop.description && is_short_text 128 stop.text)
+
+abbrev pub has_short_stop : Moment → Bool
+has_short_stop m = unwrap_or (option_map is_short_stop m.stop) true
+
 -- one of its threads stands here; the ids of its threads differ, and so do the numbers of their frames
 abbrev pub is_moment : ℕ → Moment → Bool
 is_moment sources m = nat_lt m.thread (length m.threads) && (list_all (is_thread sources) m.threads && (are_distinct m.threads && is_rising (objects m)))
@@ -96,6 +107,7 @@ pub record IsRecording (r : Recording) : Type 0 where
   pub lines : IsTrue (list_all (λ source. nat_eq source.lines (line_count source.text)) r.sources)
   pub some : 0 < length r.moments
   pub moments : IsTrue (list_all (is_moment (length r.sources)) r.moments)
+  pub stops : IsTrue (list_all has_short_stop r.moments)
   -- no number is that of two scopes or variables
   pub holders : (n : ℕ) → count_by (nat_eq n) (holders_of r) ≤ 1
   -- what a moment tells has numbers of that moment

@@ -17,5 +17,5 @@ mod texts;
 
 pub use dap_json::List;
 pub use reading::{RecordingFault, RecordingKey};
-pub use recording::{Moment, RecordedSource, RecordedThread, Recording, Sources, Span};
+pub use recording::{Moment, OwnStop, RecordedSource, RecordedThread, Recording, Sources, Span};
 pub use texts::Texts;

@@ -13,6 +13,12 @@ pub const MAX_NUMBER: u64 = 2147483647;
 /// The greatest id of a thread.
 pub const MAX_ID: i64 = 9007199254740991;
 
+/// The most bytes of the reason of a moment's own stop.
+pub const MAX_REASON: usize = 64;
+
+/// The most bytes of the description of such a stop, and of its text.
+pub const MAX_WORDS: usize = 128;
+
 /// The most sources.
 pub const MAX_SOURCES: usize = 65536;
 

@@ -11,8 +11,9 @@ ghost use Rattle.dap_recording.specs.Reading.{moment_of, moments_of, sources_of,
 ghost use Rattle.dap_recording.specs.RecordingKey.{name_of};
 ghost use Rattle.dap_recording.specs.PrivateOnePass.{HoldsSeen};
 ghost use Rattle.dap_recording.specs.declared.reading.RecordingKey.TheVariants as key;
+ghost use Rattle.dap_recording.specs.declared.reading.Teller.TheVariants as teller;
 
-use crate::reading::{RecordingFault, RecordingKey};
+use crate::reading::{RecordingFault, RecordingKey, Teller};
 use crate::recording::{Moment, RecordedSource, Recording, Sources};
 use crate::rows::Numbers;
 use crate::texts::Texts;
@@ -65,9 +66,9 @@ fn moment(
     item: Value,
     numbers: &mut Numbers,
 ) -> Result<Moment, NotGiven>
-    ensures { IfOk result (λ m. moment_of sources.now (view item) numbers.old ≡ Ok (m, numbers.new)) }
+    ensures { IfOk result (λ m. moment_of teller.Recording sources.now (view item) numbers.old ≡ Ok (m, numbers.new)) }
 {
-    let moment = rows::moment(texts, sources, &item, numbers)?;
+    let moment = rows::moment(texts, Teller::Recording, sources, &item, numbers)?;
     Ok(moment)
 }
 

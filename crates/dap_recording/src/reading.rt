@@ -3,7 +3,7 @@ ghost use Rattle.std.specs.Prelude.{◌≡◌, [], false};
 ghost use Rattle.serde_json.specs.View.{view};
 ghost use Rattle.serde_json.specs.Find.{as_str, as_bool, as_array};
 ghost use Rattle.serde_json.specs.Data.{no_items};
-ghost use Rattle.dap_recording.specs.Reading.{Gives, GivesItems, element as element_of, exit_of, some_items as some_items_of, few_items as few_items_of, few_in, required_at, optional_at, optional_or};
+ghost use Rattle.dap_recording.specs.Reading.{Gives, GivesItems, element as element_of, exit_of, some_items as some_items_of, short_text as short_text_of, few_items as few_items_of, few_in, required_at, optional_at, optional_or};
 
 use crate::numbers;
 use crate::texts::Texts;
@@ -32,6 +32,17 @@ pub enum RecordingKey {
     Thread,
     Output,
     Waits,
+    Stop,
+    Description,
+}
+
+/// Who tells of a moment.
+#[derive(Clone, Copy, Debug, PartialEq, Eq)]
+pub(crate) enum Teller {
+    /// A recording, in which each frame has a source.
+    Recording,
+    /// A host, of whose frames some may have none.
+    Host,
 }
 
 /// Why bytes are no recording.
@@ -93,6 +104,8 @@ impl RecordingKey {
             RecordingKey::Thread => "thread",
             RecordingKey::Output => "output",
             RecordingKey::Waits => "waits",
+            RecordingKey::Stop => "stop",
+            RecordingKey::Description => "description",
         }
     }
 }
@@ -141,6 +154,24 @@ pub(crate) fn optional_text(
             let text = found.as_str().ok_or(bad(key))?;
             Ok(Some(texts.text(text)?))
         }
+    }
+}
+
+/// A text of at most so many bytes, where there is one.
+pub(crate) fn short_text(
+    texts: &mut Texts,
+    value: &Value,
+    most: usize,
+    key: RecordingKey,
+) -> Result<Option<Text>, RecordingFault>
+    ensures { Gives result (optional_at (short_text_of most) key (view value.now)) }
+{
+    match value.get(key.name()) {
+        None => Ok(None),
+        Some(found) => match found.as_str() {
+            Some(text) if text.len() <= most => Ok(Some(texts.text(text)?)),
+            _ => Err(bad(key)),
+        },
     }
 }
 

@@ -29,6 +29,17 @@ pub struct RecordedThread {
     pub frames: List<Frame>,
 }
 
+/// Why a run stops at a moment that it would go by, in words: Specification, "StoppedEvent".
+#[derive(Debug, Drop)]
+pub struct OwnStop {
+    /// At most 64 bytes.
+    pub reason: Text,
+    /// At most 128 bytes.
+    pub description: Option<Text>,
+    /// At most 128 bytes.
+    pub text: Option<Text>,
+}
+
 /// Object numbers, from the first one to before `to`.
 #[derive(Clone, Copy, Debug)]
 pub struct Span {
@@ -45,6 +56,8 @@ pub struct Moment {
     pub output: Text,
     /// Whether a run that comes by is held here.
     pub waits: bool,
+    /// Why a forward run stops here, where it always does.
+    pub stop: Option<OwnStop>,
     /// The numbers of its frames.
     pub frames: Span,
     /// The numbers of its holders.
@@ -60,6 +73,8 @@ pub struct Recording {
     pub scopes: List<List<Scope>>,
     /// By the object number of a holder.
     pub variables: List<List<Variable>>,
+    /// The holders of the scopes that have no key `variables`. Of a recording these are empty; a host may tell them later.
+    pub untold: List<u64>,
 }
 
 impl Clone for RecordedSource {
@@ -76,6 +91,27 @@ impl Clone for RecordedSource {
             text: self.text.clone()?,
             on_disk: self.on_disk,
             lines: self.lines,
+        })
+    }
+}
+
+fn copied(text: &Option<Text>) -> Result<Option<Text>, AllocError>
+    ensures { IfOk result (λ copy. copy ≡ text.now) }
+{
+    match text {
+        None => Ok(None),
+        Some(text) => Ok(Some(text.clone()?)),
+    }
+}
+
+impl Clone for OwnStop {
+    ghost is_clone = { λ a b. b ≡ a };
+
+    fn clone(&self) -> Result<OwnStop, AllocError> {
+        Ok(OwnStop {
+            reason: self.reason.clone()?,
+            description: copied(&self.description)?,
+            text: copied(&self.text)?,
         })
     }
 }

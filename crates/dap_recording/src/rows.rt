@@ -1,12 +1,12 @@
 //! From JSON to a recording: a function for each row of keys, which tests them in the order of the format.
-ghost use Rattle.std.specs.Prelude.{◌≡◌, [], IfOk};
+ghost use Rattle.std.specs.Prelude.{◌≡◌, ◌++◌, [], IfOk, OnOk};
 ghost use Rattle.serde_json.specs.View.{view, items_view};
 ghost use Rattle.dap_recording.specs.declared.reading.RecordingKey.TheVariants as key;
-ghost use Rattle.dap_recording.specs.Reading.{Numbered, GivesListWith, GivesList, Gives, GivesWith, value_at, required_at, read_variables, variable_row, variables_of, holder_of, with_holder, each, each_source, scope_of, scopes_of, frame_of, thread_of, moment_of, moments_of, source_of, recording_of, source_place as source_place_of, line_of, lines_at, place_of, new_id as new_id_of, thread_place as thread_place_of, sources_of, alone as alone_of};
+ghost use Rattle.dap_recording.specs.Reading.{Numbered, GivesListWith, GivesList, Gives, GivesWith, none_numbered, untold_of, stop_of, frame_source as frame_source_of, frame_line as frame_line_of, value_at, required_at, read_variables, variable_row, variables_of, holder_of, with_holder, each, each_source, scope_of, scopes_of, frame_of, thread_of, moment_of, moments_of, source_of, recording_of, source_place as source_place_of, line_of, lines_at, place_of, new_id as new_id_of, thread_place as thread_place_of, sources_of, alone as alone_of};
 
 use crate::read_threads::ReadThreads;
-use crate::reading::{RecordingFault, RecordingKey, bad};
-use crate::recording::{Moment, RecordedSource, RecordedThread, Recording, Sources, Span};
+use crate::reading::{RecordingFault, RecordingKey, Teller, bad};
+use crate::recording::{Moment, OwnStop, RecordedSource, RecordedThread, Recording, Sources, Span};
 use crate::texts::Texts;
 use crate::{numbers, reading};
 use dap_debuggee::{Frame, Scope, Variable};
@@ -105,12 +105,13 @@ fn scope(
     Ok(Scope { name, holder })
 }
 
+#[tactic(auto, unfolding(crate::specs::Reading::scopes_of))]
 fn each_scope(
     texts: &mut Texts,
     items: &[Value],
     holders: &mut Vec<List<Variable>>,
 ) -> Result<Vec<Scope>, RecordingFault>
-    ensures { GivesListWith result holders.new.items (each (λ earlier. scope_of) (items_view items.now) [] holders.old.items) }
+    ensures { GivesListWith result holders.new.items (scopes_of (items_view items.now) holders.old.items) }
 {
     let mut found = Vec::with_capacity(texts.alloc, items.len())?;
     for item in items {
@@ -119,17 +120,19 @@ fn each_scope(
     Ok(found)
 }
 
-/// The scopes of a frame, where it has some.
-#[tactic(auto, unfolding(crate::specs::Reading::scopes_of))]
-fn scopes(
-    texts: &mut Texts,
-    value: &Value,
-    holders: &mut Vec<List<Variable>>,
-) -> Result<Vec<Scope>, RecordingFault>
-    ensures { GivesListWith result holders.new.items (scopes_of (view value.now) holders.old.items) }
+/// Adds the holders of those scopes that have no key for variables.
+fn add_untold(items: &[Value], scopes: &[Scope], untold: &mut Vec<u64>) -> Result<(), AllocError>
+    ensures { OnOk result (untold.new.items ≡ untold.old.items ++ untold_of (items_view items.now) scopes.now) }
 {
-    let items = reading::items_if_any(value, RecordingKey::Scopes)?;
-    each_scope(texts, items, holders)
+    for (i, scope) in scopes.iter().enumerate() {
+        let Some(item) = items.get(i) else {
+            return Ok(());
+        };
+        if item.get(RecordingKey::Variables.name()).is_none() {
+            untold.push(scope.holder)?;
+        }
+    }
+    Ok(())
 }
 
 /// The scopes and the variables so far, by the numbers of their frames and their holders.
@@ -137,6 +140,7 @@ fn scopes(
 pub(crate) struct Numbers {
     scopes: Vec<List<Scope>>,
     variables: Vec<List<Variable>>,
+    untold: Vec<u64>,
 }
 
 impl Model for Numbers {
@@ -144,7 +148,7 @@ impl Model for Numbers {
 
     ghost Value = { Numbered };
 
-    ghost view = { λ n. record { scopes = n.scopes.items; variables = n.variables.items } };
+    ghost view = { λ n. record { scopes = n.scopes.items; variables = n.variables.items; untold = n.untold.items } };
 }
 
 /// The place of one of the sources.
@@ -173,6 +177,20 @@ fn line(lines: u64, value: &Value) -> Result<u32, RecordingFault>
     }
 }
 
+/// The source of a frame.
+fn frame_source(
+    teller: Teller,
+    sources: &[RecordedSource],
+    value: &Value,
+) -> Result<Option<u32>, RecordingFault>
+    ensures { Gives result (frame_source_of teller sources.now (view value.now)) }
+{
+    if teller == Teller::Host && value.get(RecordingKey::Source.name()).is_none() {
+        return Ok(None);
+    }
+    Ok(Some(source_place(sources, value)?))
+}
+
 fn lines_of(sources: &[RecordedSource], place: u32) -> u64
     ensures { result ≡ lines_at sources.now place }
 {
@@ -182,21 +200,38 @@ fn lines_of(sources: &[RecordedSource], place: u32) -> u64
     }
 }
 
+/// The line of a frame in its source, if it has one.
+fn frame_line(
+    sources: &[RecordedSource],
+    source: Option<u32>,
+    value: &Value,
+) -> Result<u32, RecordingFault>
+    ensures { Gives result (frame_line_of sources.now source (view value.now)) }
+{
+    match source {
+        None => Ok(0),
+        Some(source) => line(lines_of(sources, source), value),
+    }
+}
+
 /// A frame, whose number is the count of those before it.
 #[tactic(auto, unfolding(crate::specs::Reading::frame_of))]
 fn frame(
     texts: &mut Texts,
+    teller: Teller,
     sources: &[RecordedSource],
     value: &Value,
     numbers: &mut Numbers,
 ) -> Result<Frame, RecordingFault>
-    ensures { GivesWith result numbers.new (frame_of sources.now (view value.now) numbers.old) }
+    ensures { GivesWith result numbers.new (frame_of teller sources.now (view value.now) numbers.old) }
 {
     reading::element(value, RecordingKey::Frames)?;
     let name = reading::text(texts, value, RecordingKey::Name)?;
-    let source = source_place(sources, value)?;
-    let line = line(lines_of(sources, source), value)?;
-    let scopes = scopes(texts, value, &mut numbers.variables)?;
+    let source = frame_source(teller, sources, value)?;
+    let line = frame_line(sources, source, value)?;
+    let items = reading::items_if_any(value, RecordingKey::Scopes)?;
+    let scopes = each_scope(texts, items, &mut numbers.variables)?;
+    add_untold(items, &scopes, &mut numbers.untold)?;
     let object = numbers.scopes.len() as u64;
     numbers.scopes.push(List::new(scopes))?;
     Ok(Frame {
@@ -209,15 +244,16 @@ fn frame(
 
 fn frames(
     texts: &mut Texts,
+    teller: Teller,
     sources: &[RecordedSource],
     items: &[Value],
     numbers: &mut Numbers,
 ) -> Result<Vec<Frame>, RecordingFault>
-    ensures { GivesListWith result numbers.new (each (λ earlier. frame_of sources.now) (items_view items.now) [] numbers.old) }
+    ensures { GivesListWith result numbers.new (each (λ earlier. frame_of teller sources.now) (items_view items.now) [] numbers.old) }
 {
     let mut found = Vec::with_capacity(texts.alloc, items.len())?;
     for item in items {
-        found.push(frame(texts, sources, item, numbers)?)?;
+        found.push(frame(texts, teller, sources, item, numbers)?)?;
     }
     Ok(found)
 }
@@ -259,18 +295,19 @@ fn thread_place(threads: &[RecordedThread], value: &Value) -> Result<usize, Reco
 #[tactic(auto, unfolding(crate::specs::Reading::thread_of))]
 fn thread(
     texts: &mut Texts,
+    teller: Teller,
     sources: &[RecordedSource],
     earlier: &ReadThreads,
     value: &Value,
     numbers: &mut Numbers,
 ) -> Result<RecordedThread, RecordingFault>
-    ensures { GivesWith result numbers.new (thread_of sources.now earlier.now (view value.now) numbers.old) }
+    ensures { GivesWith result numbers.new (thread_of teller sources.now earlier.now (view value.now) numbers.old) }
 {
     reading::element(value, RecordingKey::Threads)?;
     let id = new_id(earlier, value)?;
     let name = reading::text(texts, value, RecordingKey::Name)?;
     let items = reading::some_items(value, RecordingKey::Frames)?;
-    let frames = frames(texts, sources, items, numbers)?;
+    let frames = frames(texts, teller, sources, items, numbers)?;
     Ok(RecordedThread {
         id,
         name,
@@ -280,15 +317,16 @@ fn thread(
 
 fn threads(
     texts: &mut Texts,
+    teller: Teller,
     sources: &[RecordedSource],
     items: &[Value],
     numbers: &mut Numbers,
 ) -> Result<Vec<RecordedThread>, RecordingFault>
-    ensures { GivesListWith result numbers.new (each (thread_of sources.now) (items_view items.now) [] numbers.old) }
+    ensures { GivesListWith result numbers.new (each (thread_of teller sources.now) (items_view items.now) [] numbers.old) }
 {
     let mut found = ReadThreads::with_capacity(texts.alloc, items.len())?;
     for item in items {
-        let thread = thread(texts, sources, &found, item, numbers)?;
+        let thread = thread(texts, teller, sources, &found, item, numbers)?;
         found = found.with(thread)?;
     }
     Ok(found.into_vec())
@@ -296,20 +334,44 @@ fn threads(
 
 // ---- the whole
 
+/// Why a run stops at a moment, where it always does.
+#[tactic(auto, unfolding(crate::specs::Reading::stop_of))]
+fn own_stop(texts: &mut Texts, value: &Value) -> Result<Option<OwnStop>, RecordingFault>
+    ensures { Gives result (stop_of (view value.now)) }
+{
+    let reason = reading::short_text(texts, value, numbers::MAX_REASON, RecordingKey::Stop)?;
+    let description = reading::short_text(
+        texts,
+        value,
+        numbers::MAX_WORDS,
+        RecordingKey::Description,
+    )?;
+    let text = reading::short_text(texts, value, numbers::MAX_WORDS, RecordingKey::Text)?;
+    let Some(reason) = reason else {
+        return Ok(None);
+    };
+    Ok(Some(OwnStop {
+        reason,
+        description,
+        text,
+    }))
+}
+
 #[tactic(auto, unfolding(crate::specs::Reading::moment_of))]
 pub(crate) fn moment(
     texts: &mut Texts,
+    teller: Teller,
     sources: &[RecordedSource],
     value: &Value,
     numbers: &mut Numbers,
 ) -> Result<Moment, RecordingFault>
-    ensures { GivesWith result numbers.new (moment_of sources.now (view value.now) numbers.old) }
+    ensures { GivesWith result numbers.new (moment_of teller sources.now (view value.now) numbers.old) }
 {
     reading::element(value, RecordingKey::Moments)?;
     let items = reading::items(value, RecordingKey::Threads)?;
     let frames_from = numbers.scopes.len() as u64;
     let holders_from = numbers.variables.len() as u64;
-    let threads = threads(texts, sources, items, numbers)?;
+    let threads = threads(texts, teller, sources, items, numbers)?;
     let frames = Span {
         from: frames_from,
         to: numbers.scopes.len() as u64,
@@ -321,11 +383,13 @@ pub(crate) fn moment(
     let thread = thread_place(&threads, value)?;
     let output = reading::text_or_empty(texts, value, RecordingKey::Output)?;
     let waits = reading::flag(value, RecordingKey::Waits)?;
+    let stop = own_stop(texts, value)?;
     Ok(Moment {
         threads: List::new(threads),
         thread,
         output,
         waits,
+        stop,
         frames,
         holders,
     })
@@ -342,7 +406,7 @@ fn moments(
 {
     let mut found = Vec::with_capacity(texts.alloc, items.len())?;
     for item in items {
-        found.push(moment(texts, sources, item, numbers)?)?;
+        found.push(moment(texts, Teller::Recording, sources, item, numbers)?)?;
     }
     Ok(found)
 }
@@ -383,11 +447,12 @@ impl Numbers {
     ghost use Rattle.dap_recording.specs.Reading.{Numbered};
 
     pub(crate) fn new(alloc: Global) -> Numbers
-        ensures { result ≡ record { scopes = []; variables = [] } }
+        ensures { result ≡ none_numbered }
     {
         Numbers {
             scopes: Vec::new(alloc),
             variables: Vec::new(alloc),
+            untold: Vec::new(alloc),
         }
     }
 
@@ -397,15 +462,20 @@ impl Numbers {
         sources: Sources,
         moments: Vec<Moment>,
     ) -> Recording
-        ensures { result ≡ record { exit = exit; sources = sources; moments = moments.items; scopes = self.scopes; variables = self.variables } }
+        ensures { result ≡ record { exit = exit; sources = sources; moments = moments.items; scopes = self.scopes; variables = self.variables; untold = self.untold } }
     {
-        let Numbers { scopes, variables } = self;
+        let Numbers {
+            scopes,
+            variables,
+            untold,
+        } = self;
         Recording {
             exit,
             sources,
             moments: List::new(moments),
             scopes: List::new(scopes),
             variables: List::new(variables),
+            untold: List::new(untold),
         }
     }
 }
@@ -446,7 +516,7 @@ pub(crate) fn alone(
     ensures { Gives result (alone_of sources (view value.now)) }
 {
     let mut numbers = Numbers::new(texts.alloc);
-    let moment = moment(texts, sources.as_slice(), value, &mut numbers)?;
+    let moment = moment(texts, Teller::Host, sources.as_slice(), value, &mut numbers)?;
     let mut moments = Vec::with_capacity(texts.alloc, 1)?;
     moments.push(moment)?;
     Ok(numbers.into_recording(0, sources, moments))

@@ -2,6 +2,7 @@ pub mod Places
 pub mod Outputs
 pub mod Pieces
 pub mod Ranges
+pub mod Plain
 pub mod Verified
 pub mod SetLines
 pub mod Changed

@@ -6,7 +6,8 @@ use Rattle.dap_recording.proofs.ReadingExamples.{three_moments_is_recording}
 use Rattle.dap_recording.proofs.ThreeMoments.{three_moments}
 use Rattle.dap_replay.proofs.Told.{told_can_be_asked}
 use Rattle.dap_debuggee.specs.Shown.{Act, to_start, to_resume, to_pause, to_poll, to_set_breakpoints, to_assign, to_end, Reply, done, refused, happened}
-use Rattle.dap_replay.specs.Played.{Played, with_variables, fresh_played, act_on, with_ask, shown_of, piece_length, first_piece, output_of}
+use Rattle.dap_replay.specs.Played.{Played, is_untold, with_variables, fresh_played, act_on, with_ask, shown_of, piece_length, first_piece, output_of}
+use Rattle.dap_replay.specs.Moves.{plain_stop}
 use Rattle.dap_replay.specs.ShownNumbers.{ShownCanBeAsked}
 use Rattle.dap_debuggee.specs.declared.answers.State.TheVariants.{NotStarted, Running, Stopped, Gone}
 use Rattle.dap_debuggee.specs.declared.answers.How.{How}
@@ -113,7 +114,7 @@ lines = (refl, refl, refl)
 no_threads : ((shown_of fresh).threads ≡ []) × ((shown_of fresh).frames (pos 1) ≡ None) × ((shown_of (view_after at_first (to_end ∷ []))).threads ≡ [])
 no_threads = (refl, refl, refl)
 
-threads : ((shown_of at_first).threads ≡ record { id = pos 1; name = codes "main" } ∷ []) × ((shown_of at_first).frames (pos 1) ≡ Some (record { object = 0; name = codes "main"; source = 0; line = 1 } ∷ [])) × ((shown_of at_first).frames (pos 2) ≡ None)
+threads : ((shown_of at_first).threads ≡ record { id = pos 1; name = codes "main" } ∷ []) × ((shown_of at_first).frames (pos 1) ≡ Some (record { object = 0; name = codes "main"; source = Some 0; line = 1 } ∷ [])) × ((shown_of at_first).frames (pos 2) ≡ None)
 threads = (refl, refl, refl)
 
 scopes : ((shown_of at_first).scopes 0 ≡ Some (record { name = codes "Locals"; holder = 1 } ∷ [])) × ((shown_of at_first).scopes 1 ≡ None) × ((shown_of at_first).scopes 4 ≡ None) × ((shown_of at_first).children 0 ≡ Some (record { name = codes "a"; value = codes "7"; holder = None } ∷ [])) × ((shown_of at_first).children 2 ≡ None)
@@ -131,7 +132,7 @@ values : ((shown_of at_first).evaluate (Some 0) (codes "p") ≡ Some (record { v
 values = (refl, refl, refl, refl, refl, refl)
 
 abbrev main_frame : Frame
-main_frame = record { object = 0; name = codes "main"; source = 0; line = 1 }
+main_frame = record { object = 0; name = codes "main"; source = Some 0; line = 1 }
 
 abbrev locals : Scope
 locals = record { name = codes "Locals"; holder = 1 }
@@ -170,10 +171,10 @@ outputs = (refl, refl, refl, refl)
 -- ---- more than one
 
 abbrev with_moments : List Moment → Played
-with_moments moments = fresh_played (record { exit = pos 3; sources = three_moments.sources; moments = moments; scopes = []; variables = [] })
+with_moments moments = fresh_played (record { exit = pos 3; sources = three_moments.sources; moments = moments; scopes = []; variables = []; untold = [] })
 
 abbrev writing : Bool → List ℕ → Moment
-writing waits output = record { threads = record { id = pos 1; name = codes "main"; frames = record { object = 0; name = codes "main"; source = 0; line = 1 } ∷ [] } ∷ []; thread = 0; output = output; waits = waits; frames = record { from = 0; to = 0 }; holders = record { from = 0; to = 0 } }
+writing waits output = record { threads = record { id = pos 1; name = codes "main"; frames = record { object = 0; name = codes "main"; source = Some 0; line = 1 } ∷ [] } ∷ []; thread = 0; output = output; waits = waits; stop = None; frames = record { from = 0; to = 0 }; holders = record { from = 0; to = 0 } }
 
 -- a run writes up to the moment that holds it, and the next one the rest
 output_before_a_hold : replies (view_after (with_moments (writing false [] ∷ writing true (codes "a") ∷ writing false (codes "b") ∷ writing false [] ∷ writing false (codes "c") ∷ [])) (to_start ∷ to_poll ∷ []))
@@ -186,8 +187,39 @@ pause_between_pieces : replies (view_after (with_moments (writing false [] ∷ w
     ≡ done ∷ wrote (replicate 128 97) ∷ done ∷ wrote (replicate 2 97) ∷ stopped (codes "pause") ∷ []
 pause_between_pieces = refl
 
+-- ---- stops of moments
+
+abbrev stopping : Bool → List ℕ → Moment
+stopping waits reason = record (writing waits []) { stop = Some (plain_stop reason) }
+
+abbrev started : List Moment → Played
+started moments = view_after (with_moments moments) (to_start ∷ to_poll ∷ [])
+
+-- each of several, one after the other, behind what is written on the way; and then the exit
+crash_met_by_continue : replies (started (writing false [] ∷ writing false (codes "a") ∷ stopping false (codes "exception") ∷ stopping false (codes "signal") ∷ []))
+    (go Continue ∷ to_poll ∷ to_poll ∷ go Next ∷ to_poll ∷ go Continue ∷ to_poll ∷ [])
+    ≡ done ∷ wrote (codes "a") ∷ stopped (codes "exception") ∷ done ∷ stopped (codes "signal") ∷ done ∷ happened (happening.Exited (pos 3)) ∷ []
+crash_met_by_continue = refl
+
+-- forward, and then back
+stop_of_the_first_moment : replies (with_moments (stopping false (codes "library") ∷ stopping false (codes "signal") ∷ []))
+    (to_start ∷ to_poll ∷ go StepIn ∷ to_poll ∷ go StepBack ∷ to_poll ∷ go Next ∷ to_poll ∷ go ReverseContinue ∷ to_poll ∷ [])
+    ≡ done ∷ stopped (codes "library") ∷ done ∷ stopped (codes "signal") ∷ done ∷ stopped (codes "step") ∷ done ∷ stopped (codes "signal") ∷ done ∷ stopped (codes "entry") ∷ []
+stop_of_the_first_moment = refl
+
+-- held before it, and paused there; a moment that waits and has the stop holds nothing
+held_before_a_stop : replies (started (writing false [] ∷ writing true [] ∷ stopping true (codes "signal") ∷ []))
+    (go Continue ∷ to_poll ∷ to_pause ∷ to_poll ∷ go Continue ∷ to_poll ∷ [])
+    ≡ done ∷ nothing ∷ done ∷ stopped (codes "pause") ∷ done ∷ stopped (codes "signal") ∷ []
+held_before_a_stop = refl
+
+-- ---- scopes that were told without their variables
+
+untold : (is_untold fresh 0 ≡ false) × (is_untold (fresh_played (record three_moments { untold = 4 ∷ 7 ∷ [] })) 7 ≡ true) × (is_untold (fresh_played (record three_moments { untold = 4 ∷ 7 ∷ [] })) 5 ≡ false)
+untold = (refl, refl, refl)
+
 abbrev with_scopes : List Scope → List (List Variable) → Played
-with_scopes scopes variables = fresh_played (record { exit = pos 0; sources = []; moments = three_moments.moments; scopes = scopes ∷ []; variables = variables })
+with_scopes scopes variables = fresh_played (record { exit = pos 0; sources = []; moments = three_moments.moments; scopes = scopes ∷ []; variables = variables; untold = [] })
 
 abbrev valued : List ℕ → List ℕ → Variable
 valued name value = record { name = name; value = value; holder = None }
@@ -250,7 +282,7 @@ abbrev named : ℕ → RecordedSource
 named lines = record { name = codes "a.c"; path = Some (codes "/a.c"); text = replicate lines 10; on_disk = false; lines = lines }
 
 abbrev one_path : Played
-one_path = fresh_played (record { exit = pos 0; sources = named 3 ∷ named 5 ∷ []; moments = three_moments.moments; scopes = []; variables = [] })
+one_path = fresh_played (record { exit = pos 0; sources = named 3 ∷ named 5 ∷ []; moments = three_moments.moments; scopes = []; variables = []; untold = [] })
 
 -- two sources of one path: by the path both count, by a number one
 path_of_two : ((shown_of one_path).verify (Path (codes "/a.c")) (3 ∷ 5 ∷ 6 ∷ []) ≡ Some (true ∷ true ∷ false ∷ [])) × ((shown_of one_path).verify (Reference 1) (3 ∷ 5 ∷ []) ≡ Some (true ∷ false ∷ [])) × ((shown_of one_path).verify (Reference 2) (3 ∷ 5 ∷ []) ≡ Some (true ∷ true ∷ []))

@@ -27,7 +27,7 @@ first_of_them = (refl, refl, refl)
 
 -- the third moment, which waits, from the first
 abbrev run : Bool → Bool → Run
-run held paused = record { output = codes "x" ∷ codes "y" ∷ []; move = record { to = 2; held = held; reason = Pause }; paused = paused }
+run held paused = record { output = codes "x" ∷ codes "y" ∷ []; move = record { to = 2; held = held; forward = true; reason = Pause }; paused = paused }
 
 abbrev going : Run → Played
 going r = record { recording = three_moments; state = Running; at = 0; run = Some r; set = []; changed = []; acts = 0; last = (fresh_played three_moments).last }
@@ -47,7 +47,7 @@ held = refl
 held_and_paused : polls 3 (going (run true true)) ≡ Output Stdout (codes "x") ∷ Output Stdout (codes "y") ∷ Stopped (codes "pause") (pos 1) ∷ []
 held_and_paused = refl
 
-to_the_exit : polls 3 (going (record { output = codes "x" ∷ []; move = record { to = 3; held = false; reason = Step }; paused = false })) ≡ Output Stdout (codes "x") ∷ Exited (pos 0) ∷ Nothing ∷ []
+to_the_exit : polls 3 (going (record { output = codes "x" ∷ []; move = record { to = 3; held = false; forward = true; reason = Step }; paused = false })) ≡ Output Stdout (codes "x") ∷ Exited (pos 0) ∷ Nothing ∷ []
 to_the_exit = refl
 
 nothing_twice : nothings 2 ≡ Nothing ∷ Nothing ∷ []

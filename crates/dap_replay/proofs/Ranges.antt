@@ -1,18 +1,20 @@
 -- What the numbers of a recording are within.
-use Rattle.std.proofs.Common.{◌≡◌, ◌≤◌, ◌<◌, ◌+◌, ◌++◌, arith, if◌then◌else◌, map, ℕ, zero, suc, ℤ, pos, Bool, true, false, nat_le, nat_lt, List, [], ◌∷◌, length, Option, Some, None, option_map, unwrap_or, refl, sym, ap, ◌∙◌, subst}
+use Rattle.std.proofs.Common.{◌≡◌, ◌≤◌, ◌<◌, ◌+◌, ◌++◌, ◌&&◌, not, arith, if◌then◌else◌, map, ℕ, zero, suc, ℤ, pos, Bool, true, false, nat_le, nat_lt, List, [], ◌∷◌, length, Option, Some, None, option_map, unwrap_or, refl, sym, ap, ◌∙◌, subst}
 use Rattle.std.proofs.lemmas.Bool.{and_parts, and_from}
 use Rattle.std.proofs.lemmas.Bool.Decides.{nat_tests, Decides-int_eq}
 use Rattle.std.specs.List.{list_all, slice_get, find}
 use Rattle.std.specs.Ordering.{int_eq}
 use Rattle.dap_debuggee.specs.declared.answers.Frame.{Frame}
 use Rattle.dap_command.specs.Numbers.{is_int}
-use Rattle.dap_recording.specs.Recording.{objects_of, is_moment, is_thread, are_distinct, is_rising, objects, thread_at, id_at, IsRecording}
+use Rattle.dap_recording.specs.Recording.{objects_of, is_moment, is_thread, are_distinct, is_rising, objects, thread_at, id_at, IsRecording, is_short_stop, has_short_stop}
 use Rattle.dap_debuggee.specs.Laws.{is_frame, SourcesInRange, ThreadsInRange, FramesInRange, NamesOneFrame}
 use Rattle.dap_replay.specs.Played.{Played, shown_of, source_shown, thread_shown, moment_shown, threads_at, is_there}
-use Rattle.dap_replay.specs.Moves.{reason_text}
+use Rattle.dap_replay.specs.Moves.{reason_text, plain_stop, stop_told}
+use Rattle.dap_recording.specs.declared.recording.OwnStop.{OwnStop}
 use Rattle.dap_recording.specs.declared.recording.Moment.{Moment}
 use Rattle.dap_recording.specs.declared.recording.RecordedThread.{RecordedThread}
 use Rattle.dap_recording.specs.declared.recording.Recording.{Recording}
+use Rattle.dap_replay.specs.declared.moves.Move.{Move}
 use Rattle.dap_replay.specs.declared.moves.Reason.{Reason}
 use Rattle.dap_replay.specs.declared.moves.Reason.TheVariants.{Entry, Step, Breakpoint, Pause}
 
@@ -37,7 +39,19 @@ reason_short Step = refl
 reason_short Breakpoint = refl
 reason_short Pause = refl
 
+-- the reason of a stop is short, the move's and the moment's own
+stop_short_by : (b : Bool) (own : Option OwnStop) (r : Reason) → unwrap_or (option_map is_short_stop own) true ≡ true → is_short_stop (if b then unwrap_or own (plain_stop (reason_text r)) else plain_stop (reason_text r)) ≡ true
+stop_short_by true None r short = and_from (nat_le (length (reason_text r)) 64) true (reason_short r) refl
+stop_short_by true (Some own) r short = short
+stop_short_by false own r short = and_from (nat_le (length (reason_text r)) 64) true (reason_short r) refl
+
 -- of a moment of a recording
+stop_of_recording : (r : Recording) (i : ℕ) (m : Moment) (move : Move) → IsRecording r → slice_get r.moments i ≡ Some m → is_short_stop (stop_told move m) ≡ true
+stop_of_recording r i m move good is = stop_short_by (move.forward && not move.held) m.stop move.reason (all_at has_short_stop r.moments i m good.stops is)
+
+pub reason_of_recording : (r : Recording) (i : ℕ) (m : Moment) (move : Move) → IsRecording r → slice_get r.moments i ≡ Some m → nat_le (length (stop_told move m).reason) 64 ≡ true
+reason_of_recording r i m move good is = (and_parts (nat_le (length (stop_told move m).reason) 64) _ (stop_of_recording r i m move good is)).0
+
 pub id_of_recording : (r : Recording) (i : ℕ) (m : Moment) → IsRecording r → slice_get r.moments i ≡ Some m → is_int (id_at m) ≡ true
 id_of_recording r i m good is = id_in_range (length r.sources) m (all_at (is_moment (length r.sources)) r.moments i m good.moments is)
 

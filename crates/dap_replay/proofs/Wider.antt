@@ -1,10 +1,10 @@
 -- A recording with more sources: its frames name sources that are there, and all else is as it was.
-use Rattle.std.proofs.Common.{◌≡◌, ℕ, ◌<◌, ◌≤◌, ◌+◌, ◌&&◌, ◌++◌, true, nat_le, nat_lt, nat_eq, max, List, [], ◌∷◌, length, refl, ap, ◌∙◌, arith, length-append}
+use Rattle.std.proofs.Common.{◌≡◌, ℕ, ◌<◌, ◌≤◌, ◌+◌, ◌&&◌, ◌++◌, true, nat_le, nat_lt, nat_eq, max, List, [], ◌∷◌, length, Option, Some, None, refl, ap, ◌∙◌, arith, length-append}
 use Rattle.std.proofs.lemmas.Bool.{ltb-true, lt-ltb, and_parts, and_from}
 use Rattle.std.proofs.lemmas.List.Folds.{list_all-append}
 use Rattle.std.specs.List.{list_all}
 use Rattle.dap_command.specs.Numbers.{is_int}
-use Rattle.dap_debuggee.specs.Laws.{is_frame}
+use Rattle.dap_debuggee.specs.Laws.{is_place, is_frame}
 use Rattle.dap_debuggee.specs.declared.answers.Frame.{Frame}
 use Rattle.dap_recording.specs.Recording.{line_count, is_thread, is_moment, are_distinct, is_rising, objects, IsRecording}
 use Rattle.dap_recording.specs.declared.recording.RecordedSource.{RecordedSource}
@@ -15,12 +15,16 @@ use Rattle.dap_replay.specs.PrivateHeld.{path_lines_of, most_lines}
 
 -- ---- of so many sources, and of more
 
+place_wider : (a b : ℕ) → a ≤ b → (source : Option ℕ) (line : ℕ) → is_place a source line ≡ true → is_place b source line ≡ true
+place_wider a b le None line e = e
+place_wider a b le (Some source) line e =
+    let p = and_parts (nat_le 1 line) (nat_le line 2147483647 && nat_lt source a) e in
+    let q = and_parts (nat_le line 2147483647) (nat_lt source a) p.1 in
+    let lt : source < b = let h = ltb-true source a q.1 in omega (arith, h, le) in
+    and_from (nat_le 1 line) (nat_le line 2147483647 && nat_lt source b) p.0 (and_from (nat_le line 2147483647) (nat_lt source b) q.0 (lt-ltb source b lt))
+
 frame_wider : (a b : ℕ) → a ≤ b → (f : Frame) → is_frame a f ≡ true → is_frame b f ≡ true
-frame_wider a b le f e =
-    let p = and_parts (nat_le 1 f.line) (nat_le f.line 2147483647 && nat_lt f.source a) e in
-    let q = and_parts (nat_le f.line 2147483647) (nat_lt f.source a) p.1 in
-    let lt : f.source < b = let h = ltb-true f.source a q.1 in omega (arith, h, le) in
-    and_from (nat_le 1 f.line) (nat_le f.line 2147483647 && nat_lt f.source b) p.0 (and_from (nat_le f.line 2147483647) (nat_lt f.source b) q.0 (lt-ltb f.source b lt))
+frame_wider a b le f e = place_wider a b le f.source f.line e
 
 pub frames_wider : (a b : ℕ) → a ≤ b → (fs : List Frame) → list_all (is_frame a) fs ≡ true → list_all (is_frame b) fs ≡ true
 frames_wider a b le [] e = refl
@@ -63,6 +67,7 @@ recording_wider r s good other few =
       lines = list_all-append counted r.sources s.sources ∙ and_from (list_all counted r.sources) (list_all counted s.sources) good.lines other.lines;
       some = good.some;
       moments = moments_wider (length r.sources) (length (r.sources ++ s.sources)) (omega (arith, both)) r.moments good.moments;
+      stops = good.stops;
       holders = good.holders;
       spans = good.spans;
     }

@@ -6,4 +6,5 @@ pub mod VariableLaws
 pub mod SourceLaws
 pub mod PlayedLaws
 pub mod Polls
+pub mod PlainMoves
 pub mod ShownNumbers

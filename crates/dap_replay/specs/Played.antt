@@ -11,7 +11,7 @@ use Rattle.dap_debuggee.specs.Laws.{variable_named, with_value}
 use Rattle.dap_recording.specs.Recording.{id_at}
 use Rattle.dap_recording.specs.Reading.{IsVerdict}
 use Rattle.dap_recording.specs.declared.reading.RecordingFault.{RecordingFault}
-use Rattle.dap_replay.specs.Moves.{move_of, is_forward, reason_text}
+use Rattle.dap_replay.specs.Moves.{move_of, is_forward, stop_at}
 use Rattle.dap_debuggee.specs.declared.answers.State.{State}
 use Rattle.dap_debuggee.specs.declared.answers.State.TheVariants.{NotStarted, Running, Stopped, Gone}
 use Rattle.dap_debuggee.specs.declared.answers.How.{How}
@@ -138,7 +138,7 @@ with_changed changed v = record v { changed = changed }
 
 -- to the first moment
 abbrev pub after_start : Played → Played
-after_start v = run_from 0 (output_of v.recording.moments 0 0) (record { to = 0; held = false; reason = Entry }) v
+after_start v = run_from 0 (output_of v.recording.moments 0 0) (record { to = 0; held = false; forward = true; reason = Entry }) v
 
 -- what a move writes: forward the output of each moment that it comes by, backward nothing
 abbrev pub output_on_move : How → List Moment → ℕ → ℕ → List (List ℕ)
@@ -154,12 +154,16 @@ after_resume how v = run_from v.at (output_on_move how v.recording.moments v.at 
 abbrev pub after_assign : ℕ → List ℕ → List ℕ → Played → Played
 after_assign holder name text v = with_changed (with_variables holder (with_value name text (unwrap_or (variables_held v holder) [])) v.changed) v
 
+-- a stop at the end of a move, with the thread that stands there
+abbrev pub stop_of : List Moment → Move → Happening
+stop_of moments move = happening.Stopped (stop_at moments move).reason (unwrap_or (option_map id_at (slice_get moments move.to)) (pos 0))
+
 -- the end of a run, once all is written: held, stopped or gone
 abbrev pub end_of_run : Run → Played → Happening × Played
 end_of_run run v =
     if run.move.held && not run.paused then (happening.Nothing, with_run (record { output = []; move = run.move; paused = run.paused }) v)
     else (if nat_lt run.move.to (length v.recording.moments)
-    then (happening.Stopped (reason_text run.move.reason) (unwrap_or (option_map id_at (slice_get v.recording.moments run.move.to)) (pos 0)), at_rest Stopped run.move.to v)
+    then (stop_of v.recording.moments run.move, at_rest Stopped run.move.to v)
     else (happening.Exited v.recording.exit, at_rest Gone v.at v))
 
 -- a piece of output, while there is one
@@ -228,6 +232,10 @@ scopes_shown v frame = if_within (λ m. m.frames) (moment_shown v) frame (slice_
 
 abbrev pub children_shown : Played → ℕ → Option (List Variable)
 children_shown v holder = if_within (λ m. m.holders) (moment_shown v) holder (variables_held v holder)
+
+-- the holder of a scope that was told without its variables
+abbrev pub is_untold : Played → ℕ → Bool
+is_untold v holder = list_any (λ n. nat_eq n holder) v.recording.untold
 
 abbrev pub thread_shown : RecordedThread → Thread
 thread_shown thread = record { id = thread.id; name = thread.name }

@@ -1,6 +1,6 @@
 -- How the code holds a run, the last act and the values that were set, and what that amounts to.
 -- Only private clauses, invariants and proofs cite this file.
-use Rattle.std.specs.Prelude.{ℤ, Bool, zero, max, false, bytes_eq, if◌then◌else◌, Vec, ◌≡◌, ◌⊎◌, ◌≤◌, ◌+◌, ◌%◌, ◌^◌, ℕ, suc, ◌-◌, ◌<◌, length, List, [], ◌∷◌, String, map, take, drop, Option, Some, None, option_map, unwrap_or, pos}
+use Rattle.std.specs.Prelude.{ℤ, Bool, zero, max, false, bytes_eq, if◌then◌else◌, Vec, ◌≡◌, ◌⊎◌, ◌≤◌, ◌+◌, ◌%◌, ◌^◌, ℕ, suc, ◌-◌, ◌<◌, length, List, [], ◌∷◌, String, map, take, drop, Option, Some, None, option_map, unwrap_or}
 use Rattle.std.specs.List.{slice_get, find}
 use Rattle.std.specs.BTreeMap.{BTreeMap, get_by_text}
 use Rattle.std.specs.Ordering.{int_eq}
@@ -9,9 +9,7 @@ use Rattle.dap_recording.specs.declared.recording.RecordedThread.{RecordedThread
 use Rattle.std.specs.Str.{IsCharBoundary}
 use Rattle.dap_debuggee.specs.Shown.{done, refused, happened, Last}
 use Rattle.dap_command.specs.declared.source_key.SourceKey.{SourceKey}
-use Rattle.dap_recording.specs.Recording.{id_at}
-use Rattle.dap_replay.specs.Moves.{reason_text}
-use Rattle.dap_replay.specs.Played.{Played, Run, OfHolder}
+use Rattle.dap_replay.specs.Played.{Played, Run, OfHolder, stop_of}
 use Rattle.std.specs.Option.{IsSome}
 use Rattle.dap_debuggee.specs.declared.answers.State.{State}
 use Rattle.dap_debuggee.specs.declared.answers.State.TheVariants.{Running}
@@ -48,7 +46,7 @@ output_in moments i = unwrap_or (option_map (λ m. m.output) (slice_get moments 
 abbrev pub happening_of_poll : Recording → LastPoll → Happening
 happening_of_poll r given.Nothing = happening.Nothing
 happening_of_poll r (given.Output moment from to) = happening.Output Stdout (take (to - from) (drop from (output_in r.moments moment)))
-happening_of_poll r (given.Stopped reason moment) = happening.Stopped (reason_text reason) (unwrap_or (option_map id_at (slice_get r.moments moment)) (pos 0))
+happening_of_poll r (given.Stopped by) = stop_of r.moments by
 happening_of_poll r given.Exited = happening.Exited r.exit
 
 abbrev pub last_of : Recording → LastAsked → Option Last

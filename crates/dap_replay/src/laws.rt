@@ -2,6 +2,7 @@
 ghost use Rattle.dap_debuggee.specs.Laws.{StopsLast};
 ghost use Rattle.dap_debuggee.specs.StayLaws.{FramesAreConstant, SourcesAreConstant};
 ghost use Rattle.dap_replay.specs.Played.{shown_of, FollowsPlayed};
+ghost use Rattle.dap_replay.specs.PlainMoves.{PlaysWithoutStops};
 ghost use Rattle.dap_replay.specs.Polls.{PiecesAreTheOutput, PollsGiveThePieces, HeldGivesNothing};
 
 /// The pieces of a run's output are the whole output; none is empty, and none has more than 128 bytes.
@@ -17,6 +18,11 @@ pub fn polls_tell_the_pieces()
 /// A recorded debuggee that is held, and was not asked to pause, gives nothing after its output, poll after poll.
 pub fn held_gives_nothing()
     ensures { HeldGivesNothing }
+{}
+
+/// A recording of which no moment has a stop of its own is played as one by rules that know no such stops.
+pub fn plays_without_stops()
+    ensures { PlaysWithoutStops }
 {}
 
 /// A stop of a recorded debuggee lasts until it is asked to go on or to end.

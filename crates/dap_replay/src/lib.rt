@@ -20,7 +20,7 @@ pub mod variables;
 
 pub use dap_json::List;
 pub use laws::{
-    held_gives_nothing, pieces_are_the_output, polls_tell_the_pieces, recorded_frames_are_constant,
-    recorded_sources_are_constant, recorded_stops_last,
+    held_gives_nothing, pieces_are_the_output, plays_without_stops, polls_tell_the_pieces,
+    recorded_frames_are_constant, recorded_sources_are_constant, recorded_stops_last,
 };
 pub use recorded::Recorded;

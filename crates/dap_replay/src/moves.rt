@@ -1,14 +1,14 @@
 //! Where a run of a recording goes: a walk over its moments.
-ghost use Rattle.std.specs.Prelude.{◌≡◌, ◌<◌, ◌≤◌, length, option_map, IfSome};
+ghost use Rattle.std.specs.Prelude.{◌≡◌, ◌<◌, ◌≤◌, ◌||◌, length, option_map, IfSome};
 ghost use Rattle.dap_recording.specs.Recording.{depth as depth_of, top as top_of, id_at as thread_id_at};
-ghost use Rattle.dap_replay.specs.Moves.{reason_text, is_at_breakpoint as stands_at_breakpoint, is_forward as goes_forward};
+ghost use Rattle.dap_replay.specs.Moves.{reason_text, is_at_breakpoint as stands_at_breakpoint, is_forward as goes_forward, has_stop, stop_told};
 ghost use Rattle.dap_replay.specs.Played.{lines_in};
 
 use crate::set_lines::SetLines;
 use dap_debuggee::{Frame, How};
 use dap_recording::{Moment, RecordedSource};
 
-/// Why a run stopped.
+/// Why a run stops, where the moment does not say why.
 #[derive(Clone, Copy, Debug, PartialEq, Eq)]
 pub(crate) enum Reason {
     Entry,
@@ -24,6 +24,8 @@ pub(crate) struct Move {
     pub(crate) to: usize,
     /// Whether it is held there until a pause.
     pub(crate) held: bool,
+    /// Whether it goes to a later moment, whose own stop counts.
+    pub(crate) forward: bool,
     pub(crate) reason: Reason,
 }
 
@@ -78,13 +80,16 @@ fn is_at_breakpoint(moment: &Moment, sources: &[RecordedSource], set: &SetLines)
     let Some(frame) = top(moment) else {
         return false;
     };
-    if let Some(source) = sources.get(frame.source as usize)
+    let Some(place) = frame.source else {
+        return false;
+    };
+    if let Some(source) = sources.get(place as usize)
         && let Some(path) = &source.path
         && set.has_path_line(path.as_str(), frame.line)
     {
         return true;
     }
-    set.has_reference_line(frame.source as u64 + 1, frame.line)
+    set.has_reference_line(place as u64 + 1, frame.line)
 }
 
 /// What a move is decided by.
@@ -97,7 +102,7 @@ pub(crate) struct Plan<'r> {
 }
 
 impl Plan<'_> {
-    ghost use Rattle.dap_replay.specs.Moves.{passes as passes_test, least_after as least_place_after, greatest_before as greatest_place_before, target as target_of, reason_of, depth_at, waiting_moment_within, move_of};
+    ghost use Rattle.dap_replay.specs.Moves.{passes as passes_test, next_stop, greatest_before as greatest_place_before, target as target_of, reason_of, depth_at, waiting_moment_within, move_of};
     ghost use Rattle.dap_replay.specs.Played.{lines_in};
 
     fn passes(&self, wanted: Wanted, moment: &Moment) -> bool
@@ -110,15 +115,22 @@ impl Plan<'_> {
         }
     }
 
-    /// The least place after `i` of a moment that is wanted, or how many moments there are.
+    /// Whether a forward run stops at a moment.
+    fn halts(&self, wanted: Wanted, moment: &Moment) -> bool
+        ensures { result ≡ (passes_test self.now.sources.now (lines_in self.now.set.now) wanted moment.now || has_stop moment.now) }
+    {
+        self.passes(wanted, moment) || moment.stop.is_some()
+    }
+
+    /// The least place after `i` of a moment that is wanted or has a stop of its own, or how many moments there are.
     fn least_after(&self, wanted: Wanted, i: usize) -> usize
         requires { i < length self.now.moments.now }
-        ensures place { result ≡ least_place_after (passes_test self.now.sources.now (lines_in self.now.set.now) wanted) i self.now.moments.now }
+        ensures place { result ≡ next_stop (passes_test self.now.sources.now (lines_in self.now.set.now) wanted) i self.now.moments.now }
         ensures within { result ≤ length self.now.moments.now }
     {
         let mut k = i + 1;
         while let Some(moment) = self.moments.get(k) {
-            if self.passes(wanted, moment) {
+            if self.halts(wanted, moment) {
                 return k;
             }
             k += 1;
@@ -187,18 +199,19 @@ impl Plan<'_> {
         ensures { result ≡ move_of self.now.sources.now self.now.moments.now (lines_in self.now.set.now) how i }
     {
         let (to, reason) = self.unheld(how, i);
-        if is_forward(how)
-            && let Some(waiting) = self.waiting_before(i, to)
-        {
+        let forward = is_forward(how);
+        if forward && let Some(waiting) = self.waiting_before(i, to) {
             return Move {
                 to: waiting,
                 held: true,
+                forward,
                 reason: Reason::Pause,
             };
         }
         Move {
             to,
             held: false,
+            forward,
             reason,
         }
     }
@@ -221,4 +234,17 @@ pub(crate) fn id_at(moment: &Moment) -> i64
         None => 0,
         Some(thread) => thread.id,
     }
+}
+
+/// Why a run stops at a moment, at the end of a move.
+pub(crate) fn reason_told<'m>(to: Move, moment: &'m Moment) -> &'m str
+    ensures { result.now ≡ (stop_told to moment.now).reason }
+{
+    if to.forward
+        && !to.held
+        && let Some(stop) = &moment.stop
+    {
+        return stop.reason.as_str();
+    }
+    to.reason.text()
 }

@@ -37,12 +37,9 @@ impl Recorded {
             return Ok(Happening::Exited { code });
         };
         let thread = moves::id_at(moment);
-        let reason = Text::copied(alloc, to.reason.text())?;
+        let reason = Text::copied(alloc, moves::reason_told(to, moment))?;
         self.rest(State::Stopped, to.to);
-        self.note(LastAsked::Polled(LastPoll::Stopped {
-            reason: to.reason,
-            moment: to.to,
-        }));
+        self.note(LastAsked::Polled(LastPoll::Stopped { by: to }));
         Ok(Happening::Stopped { reason, thread })
     }
 

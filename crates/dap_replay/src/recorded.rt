@@ -44,9 +44,9 @@ pub(crate) enum LastPoll {
         from: usize,
         to: usize,
     },
+    /// At the end of a move.
     Stopped {
-        reason: Reason,
-        moment: usize,
+        by: Move,
     },
     Exited,
 }
@@ -103,7 +103,7 @@ impl Model for Recorded {
 impl Recorded {
     ghost use Rattle.std.specs.Prelude.{IfOk};
     ghost use Rattle.std.specs.Option.{IsSome};
-    ghost use Rattle.dap_replay.specs.Played.{fresh_played, after_start, after_resume};
+    ghost use Rattle.dap_replay.specs.Played.{fresh_played, after_start, after_resume, is_untold as is_untold_in};
     ghost use Rattle.dap_recording.specs.Recording.{IsRecording};
     ghost use Rattle.dap_replay.specs.PrivateHeld.{after_act, HasMost, KeepHolders};
     ghost use Rattle.dap_replay.specs.Played.{shown_of};
@@ -179,6 +179,17 @@ impl Recorded {
         self.recording.sources.as_slice().len()
     }
 
+    /// Whether a holder is that of a scope of the recording that was told without its variables.
+    pub fn is_untold(&self, holder: u64) -> bool
+        ensures { result ≡ is_untold_in self.now holder }
+    {
+        self.recording
+            .untold
+            .as_slice()
+            .iter()
+            .any(|other| *other == holder)
+    }
+
     /// No two scopes or variables have one number of a holder. There is nothing to run.
     pub fn holders_differ(&self)
         ensures { NamesOneHolder (shown_of self.now) }
@@ -236,6 +247,7 @@ impl Recorded {
             to: Move {
                 to: 0,
                 held: false,
+                forward: true,
                 reason: Reason::Entry,
             },
             paused: false,

@@ -5,4 +5,4 @@ use Rattle.dap_recording.proofs.rows.threads.Given as goal
 
 -- those so far, and those of what is left, are all of them
 abbrev pub invariant-loop-item : goal.invariant-loop-item
-invariant-loop-item l = each (thread_of l.sources) (items_view (drop l.item-index l.items)) l.found l.numbers ≡ each (thread_of l.sources) (items_view l.items) [] l.initial.numbers
+invariant-loop-item l = each (thread_of l.teller l.sources) (items_view (drop l.item-index l.items)) l.found l.numbers ≡ each (thread_of l.teller l.sources) (items_view l.items) [] l.initial.numbers

@@ -3,7 +3,7 @@ use Rattle.std.specs.List.{slice_get}
 use Rattle.std.proofs.lemmas.Option.{slice_get_read}
 use Rattle.dap_command.specs.Numbers.{is_int}
 use Rattle.dap_recording.specs.Recording.{id_at}
-use Rattle.dap_replay.proofs.Ranges.{id_of_recording, reason_short}
+use Rattle.dap_replay.proofs.Ranges.{id_of_recording, reason_of_recording}
 use Rattle.dap_replay.proofs.recorded.Recorded.arrive.Goals as goal
 
 pub returns-clause-in_range : goal.returns-clause-in_range
@@ -15,5 +15,5 @@ returns-clause-in_range c =
     let is : slice_get r.moments at ≡ Some m = sym (ap (λ ms. slice_get ms at) c.as_slice.ensures) ∙ here in
     let id : is_int (id_at m) ≡ true = id_of_recording r at m c.self-2.invariant.0 is in
     let given : is_int c.id_at-thread.result ≡ true = ap is_int c.id_at-thread.ensures ∙ id in
-    let short : nat_le (length c.in_ok-reason.reason) 64 ≡ true = ap (λ text. nat_le (length text) 64) (c.in_ok-reason.ensures ∙ c.text.ensures) ∙ reason_short c.args.going.to.reason in
+    let short : nat_le (length c.in_ok-reason.reason) 64 ≡ true = ap (λ text. nat_le (length text) 64) (c.in_ok-reason.ensures ∙ c.reason_told.ensures) ∙ reason_of_recording r at m c.args.going.to c.self-2.invariant.0 is in
     search rules
