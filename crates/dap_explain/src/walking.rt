@@ -123,7 +123,7 @@ impl<'a> Explainer<'a> {
     }
 
     /// Why a line of the transcript breaks a rule, as [`explain`] says it. After an error it begins anew.
-    pub fn explain(
+    pub fn reason_at(
         &mut self,
         alloc: Global,
         number: u64,
@@ -164,5 +164,5 @@ pub fn explain(
     ensures refused { IfErr result (IsRefusedIn (lines bytes.now)) }
 {
     let mut explainer = Explainer::open(alloc, bytes);
-    explainer.explain(alloc, number, rule)
+    explainer.reason_at(alloc, number, rule)
 }

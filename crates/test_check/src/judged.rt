@@ -159,7 +159,7 @@ fn sentence_of(
     text: &str,
     found: Finding,
 ) -> Result<String, Outcome> {
-    let reason = reason_of(explainer.explain(alloc, found.line, found.rule))?;
+    let reason = reason_of(explainer.reason_at(alloc, found.line, found.rule))?;
     if reason_of(explain(alloc, text.as_bytes(), found.line, found.rule))? != reason {
         return Err(Outcome::Wrong);
     }

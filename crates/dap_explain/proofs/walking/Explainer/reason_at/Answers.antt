@@ -4,8 +4,8 @@ use Rattle.dap_check.specs.Transcript.{IsRefusedIn}
 use Rattle.dap_explain.specs.PrivateWalks.{IsWalk, IsExplained}
 use Rattle.dap_explain.specs.declared.walking.Walk.{Walk}
 use Rattle.dap_explain.proofs.Explained.{refused_so, told_error}
-use Rattle.dap_explain.proofs.walking.Explainer.explain.Goals as goal
-use Rattle.dap_explain.proofs.walking.Explainer.explain.Goals.{then-number-kept, else-number-kept}
+use Rattle.dap_explain.proofs.walking.Explainer.reason_at.Goals as goal
+use Rattle.dap_explain.proofs.walking.Explainer.reason_at.Goals.{then-number-kept, else-number-kept}
 
 pub to-requires-clause-walk : goal.to-requires-clause-walk
 to-requires-clause-walk c =
