@@ -1,4 +1,9 @@
+pub mod Outcomes
 pub mod TrailLemmas
+pub mod AskedLemmas
+pub mod DecisionLemmas
+pub mod GivenLemmas
 pub mod Walked
 pub mod Explained
 pub mod ReasonLemmas
+pub mod NoteLemmas

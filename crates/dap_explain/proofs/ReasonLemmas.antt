@@ -61,7 +61,7 @@ module _ (p q : Line → Bool) where
       let t = trail p (λ n. q) xs in
       ap is_open_still (trail_push p (λ n. q) xs y) ∙ open_later (p y) (q y) y t.count t.opened t.closed ∙ ap (λ b. (b && not (q y)) || p y) is ∙ sym (open_push p q xs y)
 
-  open_trail : (xs : List Line) → is_open_still (trail p (λ n. q) xs) ≡ is_open p q xs
+  pub open_trail : (xs : List Line) → is_open_still (trail p (λ n. q) xs) ≡ is_open p q xs
   open_trail xs = from (λ z. is_open_still (trail p (λ n. q) z) ≡ is_open p q z) open_step [] xs refl
 
 -- ---- some line

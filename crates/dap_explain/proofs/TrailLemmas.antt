@@ -6,9 +6,10 @@ use Rattle.dap_check.specs.Since.{first_since, last_since, Past}
 use Rattle.dap_explain.specs.Reasons.{trail, opened_of, closing_line}
 use Rattle.dap_explain.specs.PrivateTrails.{closed_after, trail_after, opens_of, closes_of, trails}
 use Rattle.dap_check.specs.declared.line.Line.{Line}
+use Rattle.dap_check.specs.declared.line.Side.TheVariants.{Client, Adapter}
 use Rattle.dap_explain.specs.declared.trail.Trail.{Trail}
-use Rattle.dap_explain.specs.declared.walking.Search.{Search}
-use Rattle.dap_explain.specs.declared.walking.Trails.{Trails}
+use Rattle.dap_explain.specs.declared.trail.Trails.{Trails}
+use Rattle.dap_explain.specs.declared.trail.Watch.TheVariants.{Of, ClientAsks, AsksToInitialize, Initializes, Disconnects}
 use Rattle.dap_check.specs.SinceLaws.{first_push, first_later, last_push, last_later, with_later}
 
 abbrev number_of : Past Line → ℕ
@@ -49,16 +50,31 @@ trail_push opens closes earlier line =
     ∙ ap (found_of closes (cond (opens line) (count_by opens earlier + 1) (count_by opens earlier))) (last_push opens earlier line)
     ∙ trail_step closes line (opens line) (count_by opens earlier) (last_since opens earlier)
 
--- the same of three at once
-pub trails_push : (search : Search) (old new : Trails) (line : Line)
-    → new.first ≡ trail_after (opens_of search.first) (closes_of search.first) line old.first
-    → new.second ≡ trail_after (opens_of search.second) (closes_of search.second) line old.second
-    → new.third ≡ trail_after (opens_of search.third) (closes_of search.third) line old.third
-    → (earlier : List Line) → old ≡ trails search earlier → new ≡ trails search (earlier ++ line ∷ [])
-trails_push search old new line first second third earlier is =
-    let one = first ∙ ap (λ t. trail_after (opens_of search.first) (closes_of search.first) line t.first) is ∙ sym (trail_push (opens_of search.first) (closes_of search.first) earlier line) in
-    let two = second ∙ ap (λ t. trail_after (opens_of search.second) (closes_of search.second) line t.second) is ∙ sym (trail_push (opens_of search.second) (closes_of search.second) earlier line) in
-    let three = third ∙ ap (λ t. trail_after (opens_of search.third) (closes_of search.third) line t.third) is ∙ sym (trail_push (opens_of search.third) (closes_of search.third) earlier line) in
-    ap (λ x. record { first = x; second = new.second; third = new.third }) one
-    ∙ ap (λ x. record { first = trail (opens_of search.first) (closes_of search.first) (earlier ++ line ∷ []); second = x; third = new.third }) two
-    ∙ ap (λ x. record { first = trail (opens_of search.first) (closes_of search.first) (earlier ++ line ∷ []); second = trail (opens_of search.second) (closes_of search.second) (earlier ++ line ∷ []); third = x }) three
+same_trails : (new : Trails) (a b c d e f : Trail) → new.client ≡ a → new.adapter ≡ b → new.requests ≡ c → new.requests_to_initialize ≡ d → new.initialized ≡ e → new.disconnected ≡ f
+    → new ≡ record { client = a; adapter = b; requests = c; requests_to_initialize = d; initialized = e; disconnected = f }
+same_trails new a b c d e f ea eb ec ed ee ef =
+    ap (λ x. record { client = x; adapter = new.adapter; requests = new.requests; requests_to_initialize = new.requests_to_initialize; initialized = new.initialized; disconnected = new.disconnected }) ea
+    ∙ ap (λ x. record { client = a; adapter = x; requests = new.requests; requests_to_initialize = new.requests_to_initialize; initialized = new.initialized; disconnected = new.disconnected }) eb
+    ∙ ap (λ x. record { client = a; adapter = b; requests = x; requests_to_initialize = new.requests_to_initialize; initialized = new.initialized; disconnected = new.disconnected }) ec
+    ∙ ap (λ x. record { client = a; adapter = b; requests = c; requests_to_initialize = x; initialized = new.initialized; disconnected = new.disconnected }) ed
+    ∙ ap (λ x. record { client = a; adapter = b; requests = c; requests_to_initialize = d; initialized = x; disconnected = new.disconnected }) ee
+    ∙ ap (λ x. record { client = a; adapter = b; requests = c; requests_to_initialize = d; initialized = e; disconnected = x }) ef
+
+-- the same of all that are kept
+pub trails_push : (old new : Trails) (line : Line)
+    → new.client ≡ trail_after (opens_of (Of Client)) (closes_of (Of Client)) line old.client
+    → new.adapter ≡ trail_after (opens_of (Of Adapter)) (closes_of (Of Adapter)) line old.adapter
+    → new.requests ≡ trail_after (opens_of ClientAsks) (closes_of ClientAsks) line old.requests
+    → new.requests_to_initialize ≡ trail_after (opens_of AsksToInitialize) (closes_of AsksToInitialize) line old.requests_to_initialize
+    → new.initialized ≡ trail_after (opens_of Initializes) (closes_of Initializes) line old.initialized
+    → new.disconnected ≡ trail_after (opens_of Disconnects) (closes_of Disconnects) line old.disconnected
+    → (earlier : List Line) → old ≡ trails earlier → new ≡ trails (earlier ++ line ∷ [])
+trails_push old new line client adapter requests to_initialize initialized disconnected earlier is =
+    let a = client ∙ ap (λ t. trail_after (opens_of (Of Client)) (closes_of (Of Client)) line t.client) is ∙ sym (trail_push (opens_of (Of Client)) (closes_of (Of Client)) earlier line) in
+    let b = adapter ∙ ap (λ t. trail_after (opens_of (Of Adapter)) (closes_of (Of Adapter)) line t.adapter) is ∙ sym (trail_push (opens_of (Of Adapter)) (closes_of (Of Adapter)) earlier line) in
+    let c = requests ∙ ap (λ t. trail_after (opens_of ClientAsks) (closes_of ClientAsks) line t.requests) is ∙ sym (trail_push (opens_of ClientAsks) (closes_of ClientAsks) earlier line) in
+    let d = to_initialize ∙ ap (λ t. trail_after (opens_of AsksToInitialize) (closes_of AsksToInitialize) line t.requests_to_initialize) is ∙ sym (trail_push (opens_of AsksToInitialize) (closes_of AsksToInitialize) earlier line) in
+    let e = initialized ∙ ap (λ t. trail_after (opens_of Initializes) (closes_of Initializes) line t.initialized) is ∙ sym (trail_push (opens_of Initializes) (closes_of Initializes) earlier line) in
+    let f = disconnected ∙ ap (λ t. trail_after (opens_of Disconnects) (closes_of Disconnects) line t.disconnected) is ∙ sym (trail_push (opens_of Disconnects) (closes_of Disconnects) earlier line) in
+    let all = trails (earlier ++ line ∷ []) in
+    same_trails new all.client all.adapter all.requests all.requests_to_initialize all.initialized all.disconnected a b c d e f

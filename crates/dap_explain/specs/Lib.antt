@@ -1,3 +1,5 @@
 pub mod Reasons
 pub mod Sentences
 pub mod PrivateTrails
+pub mod PrivateNotes
+pub mod PrivateWalks

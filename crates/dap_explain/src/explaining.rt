@@ -1,32 +1,25 @@
-//! Why a line breaks a rule.
-ghost use Rattle.std.specs.Prelude.{◌≡◌, ◌⊎◌, ◌==◌, ◌-◌, ◌^◌, ◌<◌, ◌∷◌, ◌++◌, List, ℕ, false, IfOk, IfErr, option_map};
-ghost use Rattle.std.specs.List.{list_any};
-ghost use Rattle.std.specs.Str.Lines.{lines};
+//! Why a line breaks a rule, by what is kept of the lines before it.
+ghost use Rattle.std.specs.Prelude.{◌≡◌, ◌-◌, ◌^◌, ◌<◌, List, Some, None, if◌then◌else◌, option_map, is_some};
+ghost use Rattle.serde_json.specs.Data.{unsigned};
 ghost use Rattle.dap_json.specs.Lent.{lent_data};
-ghost use Rattle.dap_check.specs.Lines.{other_side, asks_as, asks_for, answers};
-ghost use Rattle.dap_explain.specs.Reasons.{trail, is_open_still, reason_of, why_number, why_waiting, not_asked_reason, why_not_asked, second_request_reason, why_early, no_initialize_reason, why_uninitialized, why_refused, gate_asked, not_given_reason, why_unknown, gives, other_kind, key_of, number_reason, kind_named, why_ended};
-ghost use Rattle.dap_check.specs.Rules.{number_at, resumes};
-ghost use Rattle.dap_explain.specs.PrivateTrails.{AreBefore};
-ghost use Rattle.dap_check.specs.Transcript.{AreLines, IsRefusedIn};
+ghost use Rattle.dap_check.specs.Lines.{asks, is_of};
+ghost use Rattle.dap_check.specs.Rules.{number_at};
+ghost use Rattle.dap_explain.specs.Reasons.{reason_of, why_number, waiting_reason, not_asked_reason, answer_reason, second_request_reason, why_early, no_initialize_reason, why_uninitialized, gate_asked, gate_reason, not_given_reason, unknown_reason, number_reason, reference_reason, key_of, kind_named, why_ended};
+ghost use Rattle.dap_explain.specs.PrivateNotes.{AreNotes, is_on_in};
+ghost use Rattle.dap_explain.specs.PrivateTrails.{AreBelow};
+ghost use Rattle.dap_explain.specs.declared.reason.Reason.{Reason as TheReason};
 ghost use Rattle.dap_check.specs.declared.line.Line.{Line as TheLine};
 
+use crate::decisions::Decision;
+use crate::notes::Notes;
 use crate::reason::{Reason, ReferenceKind};
-use crate::trail::{Opened, Trail, Watch};
-use crate::walking::{Search, text_at, walk};
-use dap_check::laws::texts_are_read_in_one_way;
-use dap_check::{CheckFault, Line, Rule, Side, read_line, words};
+use crate::trail::{Last, Opened, Trail};
+use dap_check::{Line, Rule, Side, words};
 use dap_command::{Command, Gate};
 use dap_envelope::Kind;
 use serde_json::Value;
-use std::alloc::Global;
 
 // ---- by what was found
-
-fn is_open(found: &Trail) -> bool
-    ensures { result ≡ is_open_still found.now }
-{
-    found.opened.is_some() && found.closed.is_none()
-}
 
 fn line_of(found: Option<Opened>) -> Option<u64>
     ensures { result ≡ option_map (λ last. last.line) found }
@@ -51,8 +44,8 @@ fn explain_number(seq: u64, messages: &Trail) -> Option<Reason>
     })
 }
 
-fn explain_request(seq: u64, requests: &Trail) -> Option<Reason>
-    ensures { result ≡ why_waiting seq requests.now }
+fn explain_request(seq: u64, requests: Last) -> Option<Reason>
+    ensures { result ≡ waiting_reason seq requests.opened requests.closed }
 {
     match (requests.opened, requests.closed) {
         (Some(asked), None) => Some(Reason::Waits {
@@ -64,8 +57,8 @@ fn explain_request(seq: u64, requests: &Trail) -> Option<Reason>
 }
 
 /// Why a response answers nothing that waits.
-fn explain_answer(request: u64, requests: &Trail) -> Reason
-    ensures { result ≡ not_asked_reason request requests.now.opened requests.now.closed }
+fn explain_answer(request: u64, requests: Last) -> Reason
+    ensures { result ≡ not_asked_reason request requests.opened requests.closed }
 {
     match (requests.opened, requests.closed) {
         (None, _) => Reason::NotAsked { request },
@@ -81,10 +74,10 @@ fn explain_answer(request: u64, requests: &Trail) -> Reason
     }
 }
 
-fn explain_response(request: u64, requests_for: &Trail, requests: &Trail) -> Option<Reason>
-    ensures { result ≡ why_not_asked request requests_for.now requests.now }
+fn explain_response(request: u64, is_waiting: bool, requests: Last) -> Option<Reason>
+    ensures { result ≡ (if is_waiting then None else Some (not_asked_reason request requests.opened requests.closed)) }
 {
-    if is_open(requests_for) {
+    if is_waiting {
         return None;
     }
     Some(explain_answer(request, requests))
@@ -135,27 +128,37 @@ fn explain_initialized(successes: &Trail, requests: &Trail) -> Option<Reason>
     Some(explain_initialize(requests))
 }
 
-fn explain_gate(gate: Gate, successes: &Trail, on: &Trail, switches: &Trail) -> Option<Reason>
-    ensures { result ≡ why_refused gate successes.now on.now switches.now }
+/// By the last line that switches the flag on or off.
+fn explain_flag(gate: Gate, decision: Option<Decision>) -> Option<Reason>
+    ensures { result ≡ (if is_on_in decision then None else option_map (λ last. TheReason.NotOffered gate last.line) decision) }
+{
+    match decision {
+        None => None,
+        Some(last) => {
+            if last.is_on {
+                None
+            } else {
+                Some(Reason::NotOffered {
+                    gate,
+                    decided: last.line,
+                })
+            }
+        }
+    }
+}
+
+fn explain_gate(gate: Gate, successes: &Trail, decision: Option<Decision>) -> Option<Reason>
+    ensures { result ≡ (if is_some successes.now.opened then (if is_on_in decision then None else option_map (λ last. TheReason.NotOffered gate last.line) decision) else Some (TheReason.NotInitialized gate)) }
 {
     if successes.opened.is_none() {
         return Some(Reason::NotInitialized { gate });
     }
-    if is_open(on) {
-        return None;
-    }
-    match switches.opened {
-        None => None,
-        Some(last) => Some(Reason::NotOffered {
-            gate,
-            decided: last.line,
-        }),
-    }
+    explain_flag(gate, decision)
 }
 
 /// Why a number that was not given in its kind is none.
-fn explain_not_given(kind: ReferenceKind, number: u64, others: &Trail) -> Reason
-    ensures { result ≡ not_given_reason kind number others.now.opened }
+fn explain_not_given(kind: ReferenceKind, number: u64, others: Last) -> Reason
+    ensures { result ≡ not_given_reason kind number others.opened }
 {
     match others.opened {
         None => Reason::NeverGiven { kind, number },
@@ -167,13 +170,8 @@ fn explain_not_given(kind: ReferenceKind, number: u64, others: &Trail) -> Reason
     }
 }
 
-fn explain_reference(
-    kind: ReferenceKind,
-    number: u64,
-    given: &Trail,
-    others: &Trail,
-) -> Option<Reason>
-    ensures { result ≡ why_unknown kind number given.now others.now }
+fn explain_reference(kind: ReferenceKind, number: u64, given: Last, others: Last) -> Option<Reason>
+    ensures { result ≡ unknown_reason kind number given.opened given.closed others.opened }
 {
     match (given.opened, given.closed) {
         (None, _) => Some(explain_not_given(kind, number, others)),
@@ -196,119 +194,7 @@ fn explain_end(successes: &Trail) -> Option<Reason>
     }
 }
 
-// ---- by the earlier lines
-
-fn number_of_line(alloc: Global, bytes: &[u8], line: &Line) -> Result<Option<Reason>, CheckFault>
-    ensures reason { IfOk result (λ told. (earlier : List TheLine) → AreBefore bytes.now line.now.number earlier → told ≡ reason_of Rule.Seq earlier line.now) }
-    ensures refused { IfErr result (IsRefusedIn (lines bytes.now)) }
-{
-    let search = Search {
-        first: Watch::Of(line.side),
-        second: Watch::Nothing,
-        third: Watch::Nothing,
-    };
-    let found = walk(alloc, bytes, line.number, &search)?;
-    Ok(explain_number(line.message.seq, &found.first))
-}
-
-fn answer_of_request(alloc: Global, bytes: &[u8], line: &Line) -> Result<Option<Reason>, CheckFault>
-    ensures reason { IfOk result (λ told. (earlier : List TheLine) → AreBefore bytes.now line.now.number earlier → told ≡ why_waiting line.now.message.seq (trail (asks_as line.now.side line.now.message.seq) (λ n. answers (other_side line.now.side) line.now.message.seq) earlier)) }
-    ensures refused { IfErr result (IsRefusedIn (lines bytes.now)) }
-{
-    let search = Search {
-        first: Watch::Asks {
-            side: line.side,
-            seq: line.message.seq,
-        },
-        second: Watch::Nothing,
-        third: Watch::Nothing,
-    };
-    let found = walk(alloc, bytes, line.number, &search)?;
-    Ok(explain_request(line.message.seq, &found.first))
-}
-
-fn answer_of_response(
-    alloc: Global,
-    bytes: &[u8],
-    number: u64,
-    asker: Side,
-    seq: u64,
-    command: &str,
-) -> Result<Option<Reason>, CheckFault>
-    ensures reason { IfOk result (λ told. (earlier : List TheLine) → AreBefore bytes.now number earlier → told ≡ why_not_asked seq (trail (asks_for asker seq command.now) (λ n. answers (other_side asker) seq) earlier) (trail (asks_as asker seq) (λ n. answers (other_side asker) seq) earlier)) }
-    ensures refused { IfErr result (IsRefusedIn (lines bytes.now)) }
-{
-    let search = Search {
-        first: Watch::AsksFor {
-            side: asker,
-            seq,
-            command,
-        },
-        second: Watch::Asks { side: asker, seq },
-        third: Watch::Nothing,
-    };
-    let found = walk(alloc, bytes, number, &search)?;
-    Ok(explain_response(seq, &found.first, &found.second))
-}
-
-fn answer_of_line(alloc: Global, bytes: &[u8], line: &Line) -> Result<Option<Reason>, CheckFault>
-    ensures reason { IfOk result (λ told. (earlier : List TheLine) → AreBefore bytes.now line.now.number earlier → told ≡ reason_of Rule.Answer earlier line.now) }
-    ensures refused { IfErr result (IsRefusedIn (lines bytes.now)) }
-{
-    match &line.message.kind {
-        Kind::Request { .. } => answer_of_request(alloc, bytes, line),
-        Kind::Response {
-            request_seq,
-            command,
-            ..
-        } => answer_of_response(
-            alloc,
-            bytes,
-            line.number,
-            line.side.opposite(),
-            *request_seq,
-            command.as_str(),
-        ),
-        _ => Ok(None),
-    }
-}
-
-fn first_of_line(alloc: Global, bytes: &[u8], line: &Line) -> Result<Option<Reason>, CheckFault>
-    ensures reason { IfOk result (λ told. (earlier : List TheLine) → AreBefore bytes.now line.now.number earlier → told ≡ reason_of Rule.FirstRequest earlier line.now) }
-    ensures refused { IfErr result (IsRefusedIn (lines bytes.now)) }
-{
-    if !line.asks(Side::Client) {
-        return Ok(None);
-    }
-    let search = Search {
-        first: Watch::ClientAsks,
-        second: Watch::Nothing,
-        third: Watch::Nothing,
-    };
-    let found = walk(alloc, bytes, line.number, &search)?;
-    let is_initialize = words::is_request_for(&line.message.kind, "initialize");
-    Ok(explain_first(is_initialize, &found.first))
-}
-
-fn initialized_of_line(
-    alloc: Global,
-    bytes: &[u8],
-    line: &Line,
-) -> Result<Option<Reason>, CheckFault>
-    ensures reason { IfOk result (λ told. (earlier : List TheLine) → AreBefore bytes.now line.now.number earlier → told ≡ reason_of Rule.Initialized earlier line.now) }
-    ensures refused { IfErr result (IsRefusedIn (lines bytes.now)) }
-{
-    if !line.tells("initialized") {
-        return Ok(None);
-    }
-    let search = Search {
-        first: Watch::Initializes,
-        second: Watch::AsksToInitialize,
-        third: Watch::Nothing,
-    };
-    let found = walk(alloc, bytes, line.number, &search)?;
-    Ok(explain_initialized(&found.first, &found.second))
-}
+// ---- by a line
 
 /// The flag that a request needs.
 fn gate_of_line(line: &Line) -> Option<Gate>
@@ -320,70 +206,6 @@ fn gate_of_line(line: &Line) -> Option<Gate>
             Some(command) => command.gate(),
         },
         _ => None,
-    }
-}
-
-fn offer_of_line(alloc: Global, bytes: &[u8], line: &Line) -> Result<Option<Reason>, CheckFault>
-    ensures reason { IfOk result (λ told. (earlier : List TheLine) → AreBefore bytes.now line.now.number earlier → told ≡ reason_of Rule.Gate earlier line.now) }
-    ensures refused { IfErr result (IsRefusedIn (lines bytes.now)) }
-{
-    if !line.is_of(Side::Client) {
-        return Ok(None);
-    }
-    let Some(gate) = gate_of_line(line) else {
-        return Ok(None);
-    };
-    let search = Search {
-        first: Watch::Initializes,
-        second: Watch::SwitchesOn(gate),
-        third: Watch::Decides(gate),
-    };
-    let found = walk(alloc, bytes, line.number, &search)?;
-    Ok(explain_gate(gate, &found.first, &found.second, &found.third))
-}
-
-fn reference_of_number(
-    alloc: Global,
-    bytes: &[u8],
-    line: u64,
-    kind: ReferenceKind,
-    number: u64,
-) -> Result<Option<Reason>, CheckFault>
-    ensures reason { IfOk result (λ told. (earlier : List TheLine) → AreBefore bytes.now line earlier → told ≡ why_unknown kind number (trail (gives kind number) (λ m. resumes) earlier) (trail (gives (other_kind kind) number) (λ m. resumes) earlier)) }
-    ensures refused { IfErr result (IsRefusedIn (lines bytes.now)) }
-{
-    let search = Search {
-        first: Watch::Gives { kind, number },
-        second: Watch::Gives {
-            kind: kind.other(),
-            number,
-        },
-        third: Watch::Nothing,
-    };
-    let found = walk(alloc, bytes, line, &search)?;
-    Ok(explain_reference(kind, number, &found.first, &found.second))
-}
-
-fn reference_of_arguments(
-    alloc: Global,
-    bytes: &[u8],
-    line: u64,
-    kind: ReferenceKind,
-    arguments: Option<&Value>,
-) -> Result<Option<Reason>, CheckFault>
-    ensures reason { IfOk result (λ told. (earlier : List TheLine) → AreBefore bytes.now line earlier → told ≡ number_reason earlier kind (number_at (key_of kind) (lent_data arguments.entry))) }
-    ensures refused { IfErr result (IsRefusedIn (lines bytes.now)) }
-{
-    let Some(object) = arguments else {
-        return Ok(None);
-    };
-    let Some(value) = object.get(kind.key()) else {
-        return Ok(None);
-    };
-    match value.as_u64() {
-        Some(number) => reference_of_number(alloc, bytes, line, kind, number),
-        None if value.is_i64() => Ok(Some(Reason::Negative { kind })),
-        None => Ok(None),
     }
 }
 
@@ -403,74 +225,123 @@ fn kind_of_line(line: &Line) -> Option<ReferenceKind>
     }
 }
 
-fn reference_of_line(alloc: Global, bytes: &[u8], line: &Line) -> Result<Option<Reason>, CheckFault>
-    ensures reason { IfOk result (λ told. (earlier : List TheLine) → AreBefore bytes.now line.now.number earlier → told ≡ reason_of Rule.Reference earlier line.now) }
-    ensures refused { IfErr result (IsRefusedIn (lines bytes.now)) }
-{
-    if !line.is_of(Side::Client) {
-        return Ok(None);
-    }
-    let Some(kind) = kind_of_line(line) else {
-        return Ok(None);
-    };
-    let arguments = words::arguments(&line.message.kind);
-    reference_of_arguments(alloc, bytes, line.number, kind, arguments)
-}
+// ---- by what is kept
 
-fn end_of_line(alloc: Global, bytes: &[u8], line: &Line) -> Result<Option<Reason>, CheckFault>
-    ensures reason { IfOk result (λ told. (earlier : List TheLine) → AreBefore bytes.now line.now.number earlier → told ≡ reason_of Rule.Disconnect earlier line.now) }
-    ensures refused { IfErr result (IsRefusedIn (lines bytes.now)) }
-{
-    if !line.asks(Side::Client) && !line.is_of(Side::Adapter) {
-        return Ok(None);
+impl Notes {
+    fn explain_number(&self, line: &Line) -> Option<Reason>
+        requires { AreBelow (2 ^ 64 - 1) self.now.trails }
+        ensures { (earlier : List TheLine) → AreNotes self.now earlier → result ≡ reason_of Rule.Seq earlier line.now }
+    {
+        match line.side {
+            Side::Client => explain_number(line.message.seq, &self.trails.client),
+            Side::Adapter => explain_number(line.message.seq, &self.trails.adapter),
+        }
     }
-    let search = Search {
-        first: Watch::Disconnects,
-        second: Watch::Nothing,
-        third: Watch::Nothing,
-    };
-    let found = walk(alloc, bytes, line.number, &search)?;
-    Ok(explain_end(&found.first))
-}
 
-fn reason(
-    alloc: Global,
-    bytes: &[u8],
-    rule: Rule,
-    line: &Line,
-) -> Result<Option<Reason>, CheckFault>
-    ensures reason { IfOk result (λ told. (earlier : List TheLine) → AreBefore bytes.now line.now.number earlier → told ≡ reason_of rule earlier line.now) }
-    ensures refused { IfErr result (IsRefusedIn (lines bytes.now)) }
-{
-    match rule {
-        Rule::Seq => number_of_line(alloc, bytes, line),
-        Rule::Answer => answer_of_line(alloc, bytes, line),
-        Rule::FirstRequest => first_of_line(alloc, bytes, line),
-        Rule::Initialized => initialized_of_line(alloc, bytes, line),
-        Rule::Gate => offer_of_line(alloc, bytes, line),
-        Rule::Reference => reference_of_line(alloc, bytes, line),
-        Rule::Disconnect => end_of_line(alloc, bytes, line),
+    fn explain_answer(&self, line: &Line) -> Option<Reason>
+        ensures { (earlier : List TheLine) → AreNotes self.now earlier → result ≡ reason_of Rule.Answer earlier line.now }
+    {
+        match &line.message.kind {
+            Kind::Request { .. } => {
+                let seq = line.message.seq;
+                explain_request(seq, self.asked(line.side).last(seq))
+            }
+            Kind::Response {
+                request_seq,
+                command,
+                ..
+            } => {
+                let seq = *request_seq;
+                let asked = self.asked(line.side.opposite());
+                explain_response(seq, asked.waits_for(seq, command.as_str()), asked.last(seq))
+            }
+            _ => None,
+        }
     }
-}
 
-/// Why a line of a transcript breaks a rule, as [`check`](dap_check::check) has found: against which earlier line it stands.
-/// None where the line keeps the rule, and where no line with a message has this number. The lines after it are not read,
-/// and those before it are read once more.
-pub fn explain(
-    alloc: Global,
-    bytes: &[u8],
-    number: u64,
-    rule: Rule,
-) -> Result<Option<Reason>, CheckFault>
-    ensures explains { (earlier : List TheLine) (line : TheLine) (later : List TheLine) → AreLines 1 (lines bytes.now) (earlier ++ line ∷ later) → line.number ≡ number → (result ≡ Ok (reason_of rule earlier line)) ⊎ (result ≡ Err CheckFault.OutOfMemory) }
-    ensures absent { (transcript : List TheLine) → AreLines 1 (lines bytes.now) transcript → list_any (λ line. line.number == number) transcript ≡ false → (result ≡ Ok None) ⊎ (result ≡ Err CheckFault.OutOfMemory) }
-    ensures refused { IfErr result (IsRefusedIn (lines bytes.now)) }
-{
-    // A law for the proof: no text is two lines.
-    texts_are_read_in_one_way();
-    let Some(text) = text_at(bytes, number) else {
-        return Ok(None);
-    };
-    let line = read_line(alloc, number, text)?;
-    reason(alloc, bytes, rule, &line)
+    fn explain_first(&self, line: &Line) -> Option<Reason>
+        ensures { (earlier : List TheLine) → AreNotes self.now earlier → result ≡ reason_of Rule.FirstRequest earlier line.now }
+    {
+        if !line.asks(Side::Client) {
+            return None;
+        }
+        let is_initialize = words::is_request_for(&line.message.kind, "initialize");
+        explain_first(is_initialize, &self.trails.requests)
+    }
+
+    fn explain_initialized(&self, line: &Line) -> Option<Reason>
+        ensures { (earlier : List TheLine) → AreNotes self.now earlier → result ≡ reason_of Rule.Initialized earlier line.now }
+    {
+        if !line.tells("initialized") {
+            return None;
+        }
+        explain_initialized(
+            &self.trails.initialized,
+            &self.trails.requests_to_initialize,
+        )
+    }
+
+    fn explain_gate(&self, line: &Line) -> Option<Reason>
+        ensures { (earlier : List TheLine) → AreNotes self.now earlier → result ≡ reason_of Rule.Gate earlier line.now }
+    {
+        if !line.is_of(Side::Client) {
+            return None;
+        }
+        let gate = gate_of_line(line)?;
+        explain_gate(gate, &self.trails.initialized, self.decisions.at(gate))
+    }
+
+    fn explain_named(&self, kind: ReferenceKind, number: u64) -> Option<Reason>
+        ensures { (earlier : List TheLine) → AreNotes self.now earlier → result ≡ number_reason earlier kind (Some (unsigned number)) }
+    {
+        let given = self.given.last(kind, number);
+        let others = self.given.last(kind.other(), number);
+        explain_reference(kind, number, given, others)
+    }
+
+    fn explain_arguments(&self, kind: ReferenceKind, arguments: Option<&Value>) -> Option<Reason>
+        ensures { (earlier : List TheLine) → AreNotes self.now earlier → result ≡ number_reason earlier kind (number_at (key_of kind) (lent_data arguments.entry)) }
+    {
+        let value = arguments?.get(kind.key())?;
+        match value.as_u64() {
+            Some(number) => self.explain_named(kind, number),
+            None if value.is_i64() => Some(Reason::Negative { kind }),
+            None => None,
+        }
+    }
+
+    fn explain_reference(&self, line: &Line) -> Option<Reason>
+        ensures { (earlier : List TheLine) → AreNotes self.now earlier → result ≡ reason_of Rule.Reference earlier line.now }
+    {
+        if !line.is_of(Side::Client) {
+            return None;
+        }
+        let kind = kind_of_line(line)?;
+        self.explain_arguments(kind, words::arguments(&line.message.kind))
+    }
+
+    fn explain_end(&self, line: &Line) -> Option<Reason>
+        ensures { (earlier : List TheLine) → AreNotes self.now earlier → result ≡ reason_of Rule.Disconnect earlier line.now }
+    {
+        if !line.asks(Side::Client) && !line.is_of(Side::Adapter) {
+            return None;
+        }
+        explain_end(&self.trails.disconnected)
+    }
+
+    /// Why the next line breaks a rule.
+    pub(crate) fn explain(&self, rule: Rule, line: &Line) -> Option<Reason>
+        requires { AreBelow (2 ^ 64 - 1) self.now.trails }
+        ensures { (earlier : List TheLine) → AreNotes self.now earlier → result ≡ reason_of rule earlier line.now }
+    {
+        match rule {
+            Rule::Seq => self.explain_number(line),
+            Rule::Answer => self.explain_answer(line),
+            Rule::FirstRequest => self.explain_first(line),
+            Rule::Initialized => self.explain_initialized(line),
+            Rule::Gate => self.explain_gate(line),
+            Rule::Reference => self.explain_reference(line),
+            Rule::Disconnect => self.explain_end(line),
+        }
+    }
 }

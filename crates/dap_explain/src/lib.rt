@@ -1,16 +1,22 @@
 //! Why a line of a transcript breaks a rule, and the sentence that says so.
 //!
-//! [`explain`] reads the lines before a finding of `dap_check` once more, and tells against which of them it stands. This
-//! crate knows lines and rules by the public contracts of `dap_check`; it must not know what the checker keeps of the lines.
+//! An [`Explainer`] goes forward with the lines of a transcript, and tells of findings of `dap_check` against which earlier
+//! lines they stand. What it keeps is the last line that a reason may stand against, of each side and number, each flag and
+//! each reference, so that a reason is a lookup. This crate knows lines and rules by the public contracts of `dap_check`; it
+//! must not know what the checker keeps of the lines.
 #![tactic(auto)]
 
+mod asked;
+mod decisions;
 mod explaining;
+mod given;
 pub mod laws;
+mod notes;
 mod reason;
 mod sentences;
 mod trail;
 mod walking;
 
-pub use explaining::explain;
 pub use reason::{Reason, ReferenceKind};
 pub use sentences::sentence;
+pub use walking::{Explainer, explain};

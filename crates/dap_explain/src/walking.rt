@@ -1,114 +1,168 @@
-//! The lines before a number, read once more.
-ghost use Rattle.std.specs.Prelude.{◌≡◌, ◌+◌, ◌-◌, ◌^◌, ◌<◌, ◌≤◌, List, ℕ, [], ◌∷◌, ◌++◌, IfOk, IfErr, OnOk, IfSome, OnSome, IfNone};
+//! The lines of a transcript, read once for the reasons of findings.
+ghost use Rattle.std.specs.Prelude.{◌≡◌, ◌⊎◌, ◌+◌, ◌-◌, ◌^◌, ◌<◌, ◌≤◌, ◌==◌, ◌∷◌, ◌++◌, [], List, ℕ, false, IfOk, IfErr, OnOk};
+ghost use Rattle.std.specs.List.{list_any};
 ghost use Rattle.std.specs.Str.Lines.{lines};
-ghost use Rattle.dap_explain.specs.PrivateTrails.{trails, AreBefore, AreBelow};
-ghost use Rattle.dap_check.specs.Transcript.{IsLine, IsTextAt, IsRefusedIn, Refuses};
+ghost use Rattle.dap_explain.specs.PrivateNotes.{AreNotes};
+ghost use Rattle.dap_explain.specs.PrivateTrails.{AreBelow};
+ghost use Rattle.dap_explain.specs.PrivateWalks.{IsWalk, IsAt, IsExplained};
+ghost use Rattle.dap_explain.specs.Reasons.{reason_of};
+ghost use Rattle.dap_check.specs.Transcript.{IsLine, AreLines, IsRefusedIn, Refuses};
 ghost use Rattle.dap_check.specs.declared.line.Line.{Line as TheLine};
 
-use crate::trail::{Trail, Watch};
+use crate::notes::Notes;
+use crate::reason::Reason;
 use dap_check::laws::texts_are_read_in_one_way;
-use dap_check::{CheckFault, Line, read_line, split_line};
+use dap_check::{CheckFault, Rule, read_line, split_line};
 use std::alloc::Global;
+use std::marker::Model;
+use std::mem;
 
-/// Three things that are looked for at once.
-#[derive(Clone, Copy)]
-pub(crate) struct Search<'a> {
-    pub(crate) first: Watch<'a>,
-    pub(crate) second: Watch<'a>,
-    pub(crate) third: Watch<'a>,
-}
-
-/// What is found.
-#[derive(Clone, Copy)]
-pub(crate) struct Trails {
-    pub(crate) first: Trail,
-    pub(crate) second: Trail,
-    pub(crate) third: Trail,
-}
-
-impl Trails {
-    fn new(search: &Search<'_>) -> Trails
-        ensures found { result ≡ trails search.now [] }
-        ensures below { AreBelow 1 result }
-    {
-        let _search = *search;
-        Trails {
-            first: Trail::new(),
-            second: Trail::new(),
-            third: Trail::new(),
-        }
-    }
-
-    fn note(&mut self, search: &Search<'_>, line: &Line)
-        requires { AreBelow (2 ^ 64 - 1) self.old }
-        ensures found { (earlier : List TheLine) → self.old ≡ trails search.now earlier → self.new ≡ trails search.now (earlier ++ line.now ∷ []) }
-        ensures below { (n : ℕ) → AreBelow n self.old → AreBelow (n + 1) self.new }
-    {
-        self.first.note(&search.first, line);
-        self.second.note(&search.second, line);
-        self.third.note(&search.third, line);
-    }
-}
-
-/// The text of the line of this number, if there is one that has bytes.
-pub(crate) fn text_at(bytes: &[u8], number: u64) -> Option<&[u8]>
-    ensures found { IfSome result (λ text. IsTextAt (lines bytes.now) number text.now) }
-    ensures none { IfNone result ((text : List ℕ) → ¬ IsTextAt (lines bytes.now) number text) }
-{
-    let mut rest = bytes;
-    let mut at = 0;
-    while !rest.is_empty() {
-        let (text, later) = split_line(rest);
-        at += 1;
-        if at == number {
-            return if text.is_empty() { None } else { Some(text) };
-        }
-        rest = later;
-    }
-    None
+/// How far the lines were read.
+#[derive(Drop)]
+pub(crate) struct Walk<'a> {
+    pub(crate) rest: &'a [u8],
+    /// The number of the next line.
+    pub(crate) at: u64,
+    pub(crate) notes: Notes,
 }
 
 /// Takes note of the line that a text is.
-fn note_text(
-    alloc: Global,
-    search: &Search<'_>,
-    found: &mut Trails,
-    number: u64,
-    text: &[u8],
-) -> Result<(), CheckFault>
-    requires { AreBelow (2 ^ 64 - 1) found.old }
-    ensures found { OnOk result ((line : TheLine) × IsLine number text.now line × ((earlier : List TheLine) → found.old ≡ trails search.now earlier → found.new ≡ trails search.now (earlier ++ line ∷ []))) }
-    ensures below { OnOk result ((n : ℕ) → AreBelow n found.old → AreBelow (n + 1) found.new) }
+fn note_text(alloc: Global, notes: &mut Notes, number: u64, text: &[u8]) -> Result<(), CheckFault>
+    requires { AreBelow (2 ^ 64 - 1) notes.old.trails }
+    ensures notes { OnOk result ((line : TheLine) × IsLine number text.now line × ((earlier : List TheLine) → AreNotes notes.old earlier → AreNotes notes.new (earlier ++ line ∷ []))) }
+    ensures below { OnOk result ((n : ℕ) → AreBelow n notes.old.trails → AreBelow (n + 1) notes.new.trails) }
     ensures refused { IfErr result (Refuses number text.now) }
 {
     let line = read_line(alloc, number, text)?;
-    found.note(search, &line);
+    notes.note(alloc, &line)?;
     Ok(())
 }
 
-/// What is found in the lines before this number.
-pub(crate) fn walk(
+impl<'a> Walk<'a> {
+    fn new(alloc: Global, bytes: &'a [u8]) -> Walk<'a>
+        ensures walk { IsWalk bytes.entry.now result.rest.now result.at result.notes }
+        ensures start { result.at ≡ 1 }
+    {
+        Walk {
+            rest: bytes,
+            at: 1,
+            notes: Notes::new(alloc),
+        }
+    }
+
+    /// Reads the lines before this number.
+    fn to(mut self, alloc: Global, bytes: &[u8], number: u64) -> Result<Walk<'a>, CheckFault>
+        requires walk { IsWalk bytes.now self.rest.now self.at self.notes }
+        requires ahead { (self.at ≡ 1) ⊎ (self.at ≤ number) }
+        ensures walk { IfOk result (λ walk. IsWalk bytes.now walk.rest.now walk.at walk.notes × IsAt number walk.rest.now walk.at) }
+        ensures refused { IfErr result (IsRefusedIn (lines bytes.now)) }
+    {
+        // A law for the proof: how transcripts grow.
+        texts_are_read_in_one_way();
+        let mut rest = self.rest;
+        let mut at = self.at;
+        let mut notes = self.notes;
+        while !rest.is_empty() && at < number {
+            let (text, later) = split_line(rest);
+            if !text.is_empty() {
+                note_text(alloc, &mut notes, at, text)?;
+            }
+            rest = later;
+            at += 1;
+        }
+        Ok(Walk { rest, at, notes })
+    }
+
+    /// Why the next line breaks a rule, if it has this number.
+    fn explain(&self, alloc: Global, number: u64, rule: Rule) -> Result<Option<Reason>, CheckFault>
+        requires { AreBelow (2 ^ 64 - 1) self.now.notes.trails }
+        ensures { (bytes : List ℕ) → IsWalk bytes self.now.rest.now self.now.at self.now.notes → IsAt number self.now.rest.now self.now.at → IsExplained bytes number rule result }
+    {
+        // A law for the proof: no text is two lines.
+        texts_are_read_in_one_way();
+        if self.at != number || self.rest.is_empty() {
+            return Ok(None);
+        }
+        let (text, _) = split_line(self.rest);
+        if text.is_empty() {
+            return Ok(None);
+        }
+        let line = read_line(alloc, number, text)?;
+        Ok(self.notes.explain(rule, &line))
+    }
+}
+
+/// Explains findings of a transcript, and goes forward with its lines: of findings in the order of their lines each line is
+/// read once, and once more where it is explained. A finding at an earlier line begins anew. Contracts see the text.
+#[derive(Drop)]
+pub struct Explainer<'a> {
+    bytes: &'a [u8],
+    walk: Walk<'a>,
+}
+
+impl<'a> Model for Explainer<'a> {
+    ghost use Rattle.std.specs.Prelude.{List, ℕ};
+    ghost use Rattle.dap_explain.specs.PrivateWalks.{IsWalk};
+
+    ghost Value = { List ℕ };
+
+    ghost view = { λ e. e.bytes.now };
+
+    ghost invariant = { λ e. IsWalk e.bytes.now e.walk.rest.now e.walk.at e.walk.notes };
+}
+
+impl<'a> Explainer<'a> {
+    /// Of a transcript, before its first line. Nothing is taken yet.
+    pub fn open(alloc: Global, bytes: &'a [u8]) -> Explainer<'a>
+        ensures { result ≡ bytes.entry.now }
+    {
+        Explainer {
+            bytes,
+            walk: Walk::new(alloc, bytes),
+        }
+    }
+
+    /// Why a line of the transcript breaks a rule, as [`explain`] says it. After an error it begins anew.
+    pub fn reason_at(
+        &mut self,
+        alloc: Global,
+        number: u64,
+        rule: Rule,
+    ) -> Result<Option<Reason>, CheckFault>
+        ensures explains { (earlier : List TheLine) (line : TheLine) (later : List TheLine) → AreLines 1 (lines self.old) (earlier ++ line ∷ later) → line.number ≡ number → (result ≡ Ok (reason_of rule earlier line)) ⊎ (result ≡ Err CheckFault.OutOfMemory) }
+        ensures absent { (transcript : List TheLine) → AreLines 1 (lines self.old) transcript → list_any (λ line. line.number == number) transcript ≡ false → (result ≡ Ok None) ⊎ (result ≡ Err CheckFault.OutOfMemory) }
+        ensures refused { IfErr result (IsRefusedIn (lines self.old)) }
+        ensures same { self.new ≡ self.old }
+    {
+        // A law for the proof: a transcript is refused for nothing but memory.
+        texts_are_read_in_one_way();
+        let begun = Walk::new(alloc, self.bytes);
+        let kept = mem::replace(&mut self.walk, begun);
+        let walk = if number < kept.at {
+            Walk::new(alloc, self.bytes)
+        } else {
+            kept
+        };
+        let walk = walk.to(alloc, self.bytes, number)?;
+        let told = walk.explain(alloc, number, rule);
+        self.walk = walk;
+        told
+    }
+}
+
+/// Why a line of a transcript breaks a rule, as [`check`](dap_check::check) has found: against which earlier line it stands.
+/// None where the line keeps the rule, and where no line with a message has this number. The lines after it are not read,
+/// and those before it are read once more: for many findings keep an [`Explainer`].
+pub fn explain(
     alloc: Global,
     bytes: &[u8],
     number: u64,
-    search: &Search<'_>,
-) -> Result<Trails, CheckFault>
-    ensures found { IfOk result (λ found. (earlier : List TheLine) → AreBefore bytes.now number earlier → found ≡ trails search.now earlier) }
-    ensures below { IfOk result (AreBelow (2 ^ 64 - 1)) }
+    rule: Rule,
+) -> Result<Option<Reason>, CheckFault>
+    ensures explains { (earlier : List TheLine) (line : TheLine) (later : List TheLine) → AreLines 1 (lines bytes.now) (earlier ++ line ∷ later) → line.number ≡ number → (result ≡ Ok (reason_of rule earlier line)) ⊎ (result ≡ Err CheckFault.OutOfMemory) }
+    ensures absent { (transcript : List TheLine) → AreLines 1 (lines bytes.now) transcript → list_any (λ line. line.number == number) transcript ≡ false → (result ≡ Ok None) ⊎ (result ≡ Err CheckFault.OutOfMemory) }
     ensures refused { IfErr result (IsRefusedIn (lines bytes.now)) }
 {
-    // A law for the proof: no text is two lines.
-    texts_are_read_in_one_way();
-    let mut found = Trails::new(search);
-    let mut rest = bytes;
-    let mut at = 1;
-    while !rest.is_empty() && at < number {
-        let (text, later) = split_line(rest);
-        if !text.is_empty() {
-            note_text(alloc, search, &mut found, at, text)?;
-        }
-        rest = later;
-        at += 1;
-    }
-    Ok(found)
+    let mut explainer = Explainer::open(alloc, bytes);
+    explainer.reason_at(alloc, number, rule)
 }

@@ -18,7 +18,7 @@ use dap_check::{
     AnySeq, CheckFault, Checked, Finding, OpenRequest, Report, Side, check, check_all,
     check_by_side,
 };
-use dap_explain::{explain, sentence};
+use dap_explain::{Explainer, Reason, explain, sentence};
 use std::alloc::{AllocError, Global};
 use std::marker::Model;
 use test_kit::bodies::body_of;
@@ -143,22 +143,40 @@ fn any_seq_of(row: &str) -> AnySeq {
     }
 }
 
-/// The sentence that explains a finding; wrong where there is none.
-fn sentence_of(alloc: Global, text: &str, found: Finding) -> Result<String, Outcome> {
-    match explain(alloc, text.as_bytes(), found.line, found.rule) {
-        Ok(Some(reason)) => match sentence(alloc, reason) {
-            Ok(told) => Ok(told),
-            Err(_) => Err(Outcome::Refused),
-        },
+fn reason_of(told: Result<Option<Reason>, CheckFault>) -> Result<Reason, Outcome> {
+    match told {
+        Ok(Some(reason)) => Ok(reason),
         Ok(None) => Err(Outcome::Wrong),
         Err(CheckFault::OutOfMemory) => Err(Outcome::Refused),
         Err(_) => Err(Outcome::Wrong),
     }
 }
 
+/// The sentence that explains a finding; wrong where there is none, and where it is not that of the line alone.
+fn sentence_of(
+    alloc: Global,
+    explainer: &mut Explainer<'_>,
+    text: &str,
+    found: Finding,
+) -> Result<String, Outcome> {
+    let reason = reason_of(explainer.reason_at(alloc, found.line, found.rule))?;
+    if reason_of(explain(alloc, text.as_bytes(), found.line, found.rule))? != reason {
+        return Err(Outcome::Wrong);
+    }
+    match sentence(alloc, reason) {
+        Ok(told) => Ok(told),
+        Err(_) => Err(Outcome::Refused),
+    }
+}
+
 /// A finding, as a row writes it.
-fn text_of_finding(alloc: Global, text: &str, found: Finding) -> Result<String, Outcome> {
-    match sentence_of(alloc, text, found) {
+fn text_of_finding(
+    alloc: Global,
+    explainer: &mut Explainer<'_>,
+    text: &str,
+    found: Finding,
+) -> Result<String, Outcome> {
+    match sentence_of(alloc, explainer, text, found) {
         Ok(told) => {
             let line = found.line;
             let written = format!(in alloc; "line {line} rule {}: {told}", found.rule.number());
@@ -177,9 +195,10 @@ fn texts_of_findings(
     text: &str,
     findings: &[Finding],
 ) -> Result<Vec<String>, Outcome> {
+    let mut explainer = Explainer::open(alloc, text.as_bytes());
     let mut texts = Vec::new(alloc);
     for found in findings {
-        let written = text_of_finding(alloc, text, *found)?;
+        let written = text_of_finding(alloc, &mut explainer, text, *found)?;
         if texts.push(written).is_err() {
             return Err(Outcome::Refused);
         }

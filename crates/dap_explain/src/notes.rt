@@ -1,0 +1,59 @@
+//! All that is kept of the lines so far, for the reasons of findings at the next one.
+ghost use Rattle.std.specs.Prelude.{◌≡◌, ◌+◌, ◌-◌, ◌^◌, ◌<◌, ◌∷◌, ◌++◌, [], List, ℕ, OnOk};
+ghost use Rattle.dap_explain.specs.PrivateNotes.{AreNotes, asked_of};
+ghost use Rattle.dap_explain.specs.PrivateTrails.{AreBelow};
+ghost use Rattle.dap_check.specs.declared.line.Line.{Line as TheLine};
+
+use crate::asked::Asked;
+use crate::decisions::Decisions;
+use crate::given::Given;
+use crate::trail::Trails;
+use dap_check::{Line, Side};
+use std::alloc::{AllocError, Global};
+
+#[derive(Drop)]
+pub(crate) struct Notes {
+    pub(crate) trails: Trails,
+    pub(crate) decisions: Decisions,
+    pub(crate) client: Asked,
+    pub(crate) adapter: Asked,
+    pub(crate) given: Given,
+}
+
+impl Notes {
+    pub(crate) fn new(alloc: Global) -> Notes
+        ensures notes { AreNotes result [] }
+        ensures below { AreBelow 1 result.trails }
+    {
+        Notes {
+            trails: Trails::new(),
+            decisions: Decisions::new(),
+            client: Asked::new(alloc),
+            adapter: Asked::new(alloc),
+            given: Given::new(alloc),
+        }
+    }
+
+    /// The requests of a side.
+    pub(crate) fn asked(&self, side: Side) -> &Asked
+        ensures { result.now ≡ asked_of self.now side }
+    {
+        match side {
+            Side::Client => &self.client,
+            Side::Adapter => &self.adapter,
+        }
+    }
+
+    pub(crate) fn note(&mut self, alloc: Global, line: &Line) -> Result<(), AllocError>
+        requires { AreBelow (2 ^ 64 - 1) self.old.trails }
+        ensures notes { OnOk result ((earlier : List TheLine) → AreNotes self.old earlier → AreNotes self.new (earlier ++ line.now ∷ [])) }
+        ensures below { OnOk result ((n : ℕ) → AreBelow n self.old.trails → AreBelow (n + 1) self.new.trails) }
+    {
+        self.client.note(alloc, Side::Client, line)?;
+        self.adapter.note(alloc, Side::Adapter, line)?;
+        self.given.note(line)?;
+        self.decisions.note(line);
+        self.trails.note(line);
+        Ok(())
+    }
+}
