@@ -19,7 +19,7 @@ NUMBERS = """
 """.split()
 NUMBERS += ["1" + "0" * 308, "1" + "0" * 400 + "e-400", "0." + "0" * 400 + "1e400"]
 TEXTS = ['""', '"a"', '"\\u0000"', '"\\ud83d\\ude00"', '"\\u00e9\\/\\b"', '"\x7f\u2028\ufeff"', '"\U0001f333"']
-TEXTS += ['"' + unit * n + '"' for unit, n in [("c", 63), ("c", 64), ("c", 65), ("\u00e9", 32), ("\u00e9", 33)]]
+TEXTS += ['"' + "c" * n + '"' for n in (63, 64, 65, 128, 129)] + ['"' + "\u00e9" * n + '"' for n in (32, 33)]
 VALUES = ["null", "true", "false", "[]", "{}", "[null]", "[1]", "[{}]", "[0,2147483647]", '{"a":1,"a":{}}', '{"path":1}']
 VALUES += ['{"path":""}', '{"sourceReference":1}', '{"line":1}', '[{"line":1}]']
 NO_JSON = """
@@ -31,8 +31,8 @@ DEPTHS = [*range(95, 104), *range(118, 130)]
 KEYS = """
     seq type command arguments event body success request_seq message threadId frameId variablesReference source path
     sourceReference breakpoints lines line startFrame levels start count requestId expression filters linesStartAt1
-    columnsStartAt1 supportsVariablePaging exit sources moments threads thread output waits id name frames scopes variables
-    value text capabilities supportsStepBack stackFrames Seq x
+    columnsStartAt1 supportsVariablePaging exit sources moments threads thread output waits stop id name frames scopes
+    variables value description text capabilities supportsStepBack stackFrames Seq x
 """.split()
 KEYS += ["", "seq\x00", "\u00e9"]
 

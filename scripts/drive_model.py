@@ -259,19 +259,6 @@ class Adapter(Session):
     def polls(self):
         """Requests are handled one at a time here, and polls are asked for."""
 
-    def poll_once(self):
-        what, value = self.debuggee.poll()
-        if what == "output":
-            self.event("output", {"category": "stdout", "output": value})
-        elif what == "stopped":
-            self.phase = "Stopped"
-            thread = self.debuggee.moments[self.debuggee.at]["thread"]
-            self.event("stopped", {"allThreadsStopped": True, "reason": value, "threadId": thread})
-        elif what == "exited":
-            self.end("Exited")
-            self.event("exited", {"exitCode": value})
-            self.event("terminated")
-
 
 USUAL = {"max_body": 4194304, "max_requests": 64, "max_references": 65536, "max_seq": GREATEST}
 

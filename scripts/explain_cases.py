@@ -116,6 +116,24 @@ BAD_KEYS = [
     (["moments", 1, "thread"], "1", "a string, not a number"),
     (["moments", 0, "output"], 1, "a number, not a string"),
     (["moments", 0, "waits"], 1, "a number, not a boolean"),
+    (["moments", 0, "stop"], 1, "a number, not a string"),
+    (["moments", 1, "stop"], None, "null, not a string"),
+    (["moments", 1, "stop"], "x" * 70, "a text of 70 bytes, not at most 64"),
+    (["moments", 0, "stop"], "\u00e9" * 32 + "x", "a text of 65 bytes, not at most 64"),
+    (["moments", 0, "description"], False, "a boolean, not a string"),
+    (["moments", 1, "description"], "\U0001f333" * 33, "a text of 132 bytes, not at most 128"),
+    (["moments", 0, "text"], {}, "an object, not a string"),
+    (["moments", 1, "text"], "\n" * 129, "a text of 129 bytes, not at most 128"),
+]
+# A bad value of each key of a moment, in the order in which they are tested. The first is named, wherever it is in the file.
+OF_A_MOMENT = [
+    ("threads", 1, "a number, not an array"),
+    ("thread", None, "null, not a number"),
+    ("output", 1, "a number, not a string"),
+    ("waits", "", "a string, not a boolean"),
+    ("stop", "x" * 65, "a text of 65 bytes, not at most 64"),
+    ("description", [], "an array, not a string"),
+    ("text", "x" * 129, "a text of 129 bytes, not at most 128"),
 ]
 
 
@@ -130,6 +148,11 @@ def recordings():
         if told is None:
             where, told = where + "[0].variables[0].value", "absent"
         rows += [(f"{where}, {told}", changed(path, value), "BadKey", f"{where}: {told}")]
+    for first, (key, _, told) in enumerate(OF_A_MOMENT):
+        bad = {key: value for key, value, _ in reversed(OF_A_MOMENT[first:])}
+        moment = {**bad, **{key: value for key, value in GOOD["moments"][0].items() if key not in bad}}
+        where = f"moments[0].{key}"
+        rows += [(f"{where} is the first bad one", changed(["moments", 0], moment), "BadKey", f"{where}: {told}")]
     # The first bad key in the order of the format is told, not the first of the file.
     told = "exit: a number, not a whole one from -2147483648 to 2147483647"
     explained([("the first of three", ["serve", b'{"moments":1,"sources":2,"exit":3.5}'], "BadKey", f"FILE: {told}")])

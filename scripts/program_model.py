@@ -19,6 +19,8 @@ from slow_check import MAX_FILE, Refused, is_text, is_whole, need, read_json, re
 
 MAX_SOURCES = 65536
 MAX_LINE = 2147483647
+# Of the texts of a stop, in UTF-8.
+MAX_BYTES = {"stop": 64, "description": 128, "text": 128}
 
 
 # Recordings
@@ -91,6 +93,10 @@ def bad_keys_of_moment(moment, counts):
     yield from bad_texts({"output": "", **moment}, "output")
     if not isinstance(moment.get("waits", False), bool):
         yield "waits"
+    for key, most in MAX_BYTES.items():
+        text = moment.get(key, "")
+        if not is_text(text) or len(text.encode()) > most:
+            yield key
 
 
 def bad_keys_of_thread(thread, ids, counts):

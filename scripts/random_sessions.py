@@ -47,6 +47,8 @@ class Guided:
 
 
 TEXTS = ["", "a", "b", "\u00e9" * 100, "\u0001\n\t\"\\/", "\U0001f333", "x" * 300, "\x7f\u2028", "\u001f" * 120]
+# Reasons of a stop, of which one has as many bytes as may be.
+REASONS = ["", "breakpoint", "exception", "step", "pause", "entry", "a\u0001\"\U0001f333", "x" * 64]
 
 
 def random_recording(choice):
@@ -81,6 +83,10 @@ def random_recording(choice):
         stacks = [[shown() for _ in range(choice.randrange(1, 5))] for _ in ids]
         threads = [{"id": n, "name": choice.choice(TEXTS), "frames": frames} for n, frames in zip(ids, stacks)]
         told = {"threads": threads, "thread": choice.choice(ids), "waits": choice.randrange(4) == 0}
+        if choice.randrange(4) == 0:
+            told["stop"] = choice.choice(REASONS)
+        for key in ("description", "text") if choice.randrange(4) == 0 else ():
+            told[key] = choice.choice(REASONS + ["x" * 128, "\u00e9" * 64])
         return {**told, "output": choice.choice(TEXTS)} if choice.randrange(2) else told
 
     return {"exit": choice.randrange(-9, 9), "sources": sources, "moments": [moment() for _ in range(choice.randrange(1, 13))]}

@@ -92,7 +92,13 @@ class Played:
         if command == "scopes":
             told = self.client.ask(command, frameId=self.frames[arguments["frameId"]])
             self.holders.update(zip(references(body["scopes"]), references(told["scopes"])))
-            return [[one["name"] for one in each["scopes"]] for each in (body, told)]
+            names = [[one["name"] for one in each["scopes"]] for each in (body, told)]
+            # What was evaluated there is in one more scope.
+            return [names[0], names[1][:-1] if names[1][-1:] == ["Evaluations"] else names[1]]
+        if command == "evaluate" and arguments.get("frameId") in self.frames:
+            told = self.client.ask(command, **{**arguments, "frameId": self.frames[arguments["frameId"]]})
+            self.holders[body["variablesReference"]] = told["variablesReference"]
+            return [[each["result"]] for each in (body, told)]
         if command == "variables" and (body["variables"] or self.holders[arguments["variablesReference"]]):
             told = self.client.ask(command, variablesReference=self.holders[arguments["variablesReference"]])
             self.holders.update(zip(references(body["variables"]), references(told["variables"])))
@@ -129,6 +135,7 @@ def examples():
             stored = bytes_of(os.path.join(EXAMPLES, "recordings", name + ".json"))
             expect(f"record: examples/recordings/{name}.json is this recording", stored == bytes_of(path), True)
         played_as(name, path, *looks_of(transcript))
+        moved_as(name, path, transcript)
         status, _, err = output_of([FOLLOW, "--program", DAP, "--recording", path])
         expect(f"record: {name}: is followed", (status, err), (0, b""))
 
@@ -157,6 +164,34 @@ def played_as(name, path, stops, code):
     expect(f"record: {name}: it exits", stop["body"], {"exitCode": code})
     played.client.ask("disconnect")
     expect(f"record: {name}: and ends", played.client.end(), (0, []))
+
+
+def moved_as(name, path, transcript):
+    """The client's own moves, with the lines that it set, lead from stop to stop with the reasons of the session."""
+    client, stops, said = Recorded([DAP, "serve", path]), [], {}
+    client.ask("initialize", adapterID="rec")
+    client.send("launch")
+    moments = recording_of(path)["moments"]
+    for line in transcript.decode().splitlines():
+        message = json.loads(line[2:])
+        if message.get("event") == "stopped":
+            said[len(said)] = reason_of(message["body"])
+        elif message["type"] == "request" and message["command"] in MOVES:
+            client.ask(message["command"], **message.get("arguments", {}))
+            if message["command"] != "setBreakpoints":
+                stops.append(client.wait_for("stopped", "exited"))
+    wanted = [one if "stop" in moments[place] else one[:1] for place, one in said.items()]
+    got = [reason_of(stop["body"]) for stop in stops if stop["event"] == "stopped"]
+    expect(f"record: {name}: the same moves", got, wanted)
+    client.end()
+
+
+MOVES = ("setBreakpoints", "configurationDone", "continue", "next", "stepIn", "stepOut")
+
+
+def reason_of(stopped):
+    """The reason, and what else is told of it."""
+    return [stopped[key] for key in ("reason", "description", "text") if key in stopped]
 
 
 # Recordings that were written by hand, played to a client, and recorded again.

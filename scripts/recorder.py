@@ -14,6 +14,13 @@ MOST_LINES = 1000000
 MOST_VARIABLES = 1000000
 GREATEST_ID = 2**53 - 1
 PROGRAM_OUTPUT = ("stdout", "stderr")
+# What a recording has of why a stop came: of each the key of the event, and how many bytes the text may have.
+TOLD = {"stop": ("reason", 64), "description": ("description", 128), "text": ("text", 128)}
+EVALUATIONS = "Evaluations"
+BACK = ("stepBack", "reverseContinue")
+FORTH = ("continue", "next", "stepIn", "stepOut")
+# After each of these requests the program may run.
+RUNS = (*FORTH, *BACK, "goto", "restartFrame", "launch", "attach", "restart", "configurationDone")
 
 
 class NoRecording(Exception):
@@ -72,9 +79,13 @@ class Holder:
 class Stop:
     """One stop: what was asked there, and what came."""
 
-    def __init__(self, number, body, names, output, waits):
+    def __init__(self, number, body, names, output, waits, move, lines):
         self.number = number
         self.reason = text_of(body, "reason")
+        self.told = {key: body[name] for key, (name, _) in TOLD.items() if isinstance(body.get(name), str)}
+        # The request that led here, if there was one since the stop before, and the lines that were set then.
+        self.move = move
+        self.lines = lines
         self.thread = number_of(body, "threadId")
         self.names = dict(names)
         self.are_named = False
@@ -90,6 +101,7 @@ class Stop:
         # each frame. The number and that frame are the key of a holder; here they are by number, and then by frame.
         self.given_by = {}
         self.holders = {}
+        # Of each the frame's id, the expression, and what it came to, as a variable of that name.
         self.evaluations = []
 
     def name_threads(self, threads):
@@ -126,6 +138,14 @@ class Stop:
         if key:
             variables = [self.with_keys(one) for one in objects_of(body, "variables")]
             self.holders.setdefault(key[0], {}).setdefault(key[1], Holder()).take(arguments, variables)
+
+    def take_evaluation(self, arguments, body):
+        expression = text_of(arguments, "expression")
+        found = self.with_keys({**body, "name": expression, "value": text_of(body, "result")})
+        self.evaluations.append((self.frame_of(arguments), expression, found))
+
+    def evaluations_in(self, frame):
+        return [(expression, found) for number, expression, found in self.evaluations if number == frame]
 
     def key_of(self, value):
         number = number_of(value, "variablesReference", 0)
@@ -170,6 +190,11 @@ class Session:
         self.pieces = {}
         self.exit = None
         self.is_pausing = False
+        # The last request since the stop before after which the program may run, with its number, and the lines set then.
+        self.move = None
+        # The lines that the client has set, by source, from 1; and what those were that a request replaced, by its number.
+        self.lines = {}
+        self.replaced = {}
         self.starts = 0
         self.restarted_after = []
         self.first_line = 1
@@ -181,28 +206,58 @@ class Session:
         elif not is_client and kind == "event":
             self.hear_event(message.get("event"), object_of(message, "body"))
         elif not is_client and kind == "response":
-            asked = self.asked.pop(message.get("request_seq"), None) if type(message.get("request_seq")) is int else None
+            seq = message.get("request_seq")
+            asked = self.asked.pop(seq, None) if type(seq) is int else None
+            lines = self.replaced.pop(seq, self.lines) if asked else self.lines
             if asked and message.get("success") is True:
                 self.hear_answer(*asked, object_of(message, "body"))
+            elif asked:
+                self.hear_failure(seq, lines)
 
     def hear_request(self, command, seq, arguments):
         if type(seq) is int:
             self.asked[seq] = (self.stops[-1] if self.stops else None, command, arguments)
         if command == "initialize":
             self.first_line = 0 if arguments.get("linesStartAt1") is False else 1
+        elif command == "setBreakpoints" and type(seq) is int:
+            self.hear_lines(seq, arguments)
+        elif command in RUNS:
+            self.move = (command, seq, self.lines)
         self.is_pausing |= command == "pause"
+
+    def hear_lines(self, seq, arguments):
+        """Lines that are set for a source replace those that it had. They are set once they are asked for, unless it fails."""
+        source = object_of(arguments, "source")
+        lines = [number_of(one, "line", 0) for one in objects_of(arguments, "breakpoints")]
+        if arguments.get("breakpoints") is None:
+            lines = [line for line in arguments["lines"] if type(line) is int] if isinstance(arguments.get("lines"), list) else []
+        lines = [line + 1 - self.first_line for line in lines]
+        self.replaced[seq] = self.lines
+        self.lines = {**self.lines, **{name: lines for name in names_of(source)[:1]}}
+
+    def hear_failure(self, seq, lines):
+        """A request that fails has changed nothing."""
+        if self.move and self.move[1] == seq:
+            self.move = None
+        self.lines = lines
 
     def hear_event(self, event, body):
         if event == "stopped":
-            self.stops.append(Stop(len(self.stops) + 1, body, self.names, "".join(self.output), self.is_pausing))
-            self.output = []
-            self.is_pausing = False
+            self.hear_stop(body)
         elif event == "output":
             category = text_of(body, "category", "console")
             self.pieces[category] = self.pieces.get(category, 0) + 1
             self.output += [text_of(body, "output")] if category in PROGRAM_OUTPUT else []
         elif event == "exited":
             self.exit = number_of(body, "exitCode", self.exit)
+
+    def hear_stop(self, body):
+        move, _, lines = self.move or (None, None, self.lines)
+        number, output = len(self.stops) + 1, "".join(self.output)
+        self.stops.append(Stop(number, body, self.names, output, self.is_pausing, move, lines))
+        self.output = []
+        self.is_pausing = False
+        self.move = None
 
     def hear_answer(self, stop, command, arguments, body):
         if command in ("launch", "attach", "restart"):
@@ -222,8 +277,7 @@ class Session:
         elif stop and command == "variables":
             stop.take_variables(arguments, body)
         elif stop and command == "evaluate":
-            asked = (stop.frame_of(arguments), text_of(arguments, "expression"), text_of(body, "result"))
-            stop.evaluations.append(asked)
+            stop.take_evaluation(arguments, body)
 
     def hear_source(self, arguments, body):
         source = object_of(arguments, "source")
@@ -232,6 +286,12 @@ class Session:
             self.texts.setdefault(("reference", reference), text_of(body, "content"))
         if text_of(source, "path"):
             self.texts.setdefault(("path", source["path"]), text_of(body, "content"))
+
+
+def names_of(source):
+    """What the client sets lines of a source by: its path where it has one, and its number."""
+    path, reference = text_of(source, "path"), number_of(source, "sourceReference", 0)
+    return [("path", path)] * (path != "") + [("reference", reference)] * (reference > 0)
 
 
 def line_count(text):
@@ -317,6 +377,9 @@ class Moments:
         self.notes = notes
         self.left = MOST_VARIABLES
         self.counts = {}
+        # The stop of the last moment, and the depth of its stack.
+        self.before = None
+        self.depth = 0
 
     def all(self):
         moments, before = [], ""
@@ -347,9 +410,44 @@ class Moments:
         for frame, expression, _ in stop.evaluations:
             if frame not in frames:
                 self.say(stop, f"evaluation of {expression!r} left out: it names no frame of the stop")
-        moment = {"threads": threads, "thread": stop.thread if stop.thread in ids else ids[0]}
-        moment.update({"output": output} if output else {})
-        return {**moment, "waits": True} if stop.waits else moment
+        thread = stop.thread if stop.thread in ids else ids[0]
+        moment = {"threads": threads, "thread": thread, **({"output": output} if output else {})}
+        moment.update({"waits": True} if stop.waits else {})
+        return {**moment, **self.reason(stop, thread, threads[ids.index(thread)]["frames"])}
+
+    def reason(self, stop, thread, frames):
+        """Why it stopped, where the move that led there gives another reason when it is played, or goes by."""
+        top = stop.frames[thread][min(stop.frames[thread])]
+        is_set = any(frames[0]["line"] in stop.lines.get(name, []) for name in names_of(object_of(top, "source")))
+        given = self.reason_played(stop, is_set, len(frames))
+        before, self.before, self.depth = self.before, stop, len(frames)
+        is_next = before is not None and before.number == stop.number - 1
+        if given is None and stop.reason in ("step", "") and stop.move in FORTH and is_next:
+            self.say(stop, f"`{stop.move}` goes by it when it is played")
+        # A step that has ended stops nobody else; nor does what a move back came to, and a stop that is told once more.
+        is_again = is_next and stop.move is None and (before.reason, before.thread) == (stop.reason, stop.thread)
+        if stop.reason in (given, "step", "") or stop.move in BACK or is_again:
+            return {}
+        return {key: self.cut(stop, key, text) for key, text in stop.told.items()}
+
+    def reason_played(self, stop, is_set, depth):
+        """The reason with which `dap serve` comes to a stop, by the same move with the same lines; none where it goes by."""
+        if self.before is None:
+            return "entry"
+        if stop.move in ("stepIn", "next", "stepOut"):
+            most = {"stepIn": depth, "next": self.depth, "stepOut": self.depth - 1}[stop.move]
+            given = "step" if depth <= most else None
+        else:
+            given = "breakpoint" if is_set else None
+        return "pause" if given is None and stop.waits else given
+
+    def cut(self, stop, key, text):
+        """As many of the text's characters as there is room for."""
+        name, most = TOLD[key]
+        stream = text.encode("utf-8", "replace")
+        if len(stream) > most:
+            self.say(stop, f"{name} of {len(stream)} bytes cut: a recording has at most {most}")
+        return stream[:most].decode("utf-8", "ignore")
 
     def say_cuts(self, stop, threads):
         """What was counted in the moment."""
@@ -379,8 +477,10 @@ class Moments:
         source, line = self.sources.place_of(object_of(frame, "source"), line)
         made = {"name": text_of(frame, "name"), "source": source, "line": line}
         number = number_of(frame, "id")
+        self.join_evaluations(stop, number)
         scopes = [self.scope(stop, scope) for scope in stop.scopes_of(number)]
-        self.say_evaluations(stop, number, scopes)
+        evaluations = self.evaluations(stop, number, scopes)
+        scopes += [{"name": EVALUATIONS, "variables": evaluations}] if evaluations else []
         return {**made, "scopes": scopes} if scopes else made
 
     def scope(self, stop, scope):
@@ -408,15 +508,38 @@ class Moments:
         inner = self.variables(stop, variable, "variable", above)
         return {"name": variable["name"], "value": variable["value"], **({"variables": inner} if inner else {})}
 
-    def say_evaluations(self, stop, frame, scopes):
-        """Evaluations in a frame that `dap serve` answers otherwise: it looks a name up in the scopes."""
-        values = {}
+    def join_evaluations(self, stop, frame):
+        """A variable whose name was evaluated may have been opened there."""
+        first = {}
+        for scope in stop.scopes_of(frame):
+            holder = stop.holder(scope)[1]
+            for one in holder.variables() if holder else []:
+                first.setdefault(one["name"], one)
+        for expression, found in stop.evaluations_in(frame):
+            one = first.get(expression)
+            if one and one["value"] == found["value"]:
+                one["keys"] += [key for key in found["keys"] if key not in one["keys"]]
+
+    def evaluations(self, stop, frame, scopes):
+        """What was evaluated in a frame and is no variable there. `dap serve` looks a name up in the scopes: the first counts."""
+        values, made = {}, []
         for scope in scopes:
             for one in scope.get("variables", []):
                 values.setdefault(one["name"], one["value"])
-        for number, expression, result in stop.evaluations:
-            if number == frame and values.get(expression) != result:
-                self.say(stop, f"evaluation of {expression!r} left out: no variable of the frame has that name and value")
+        for expression, found in stop.evaluations_in(frame):
+            if expression not in values:
+                values[expression] = found["value"]
+                made += self.evaluation(stop, found)
+            elif values[expression] != found["value"]:
+                self.say(stop, f"evaluation of {expression!r} left out: a variable of that name has another value")
+        return made
+
+    def evaluation(self, stop, found):
+        if not self.left:
+            self.counts["many"] += 1
+            return []
+        self.left -= 1
+        return [self.variable(stop, found, (EVALUATIONS,))]
 
 
 def exit_of(session, notes):

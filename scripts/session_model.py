@@ -128,6 +128,13 @@ class Closed(Exception):
     """A response closes the adapter, by the name of the fault."""
 
 
+def reason_of(moment, other):
+    """What a stop there is told with: the reason that the moment has, with its texts, or else the move's own."""
+    if "stop" not in moment:
+        return {"reason": other}
+    return {"reason": moment["stop"], **{key: moment[key] for key in ("description", "text") if key in moment}}
+
+
 class Recorded:
     """A recorded run. Its frames, and the scopes and variables that hold others, are the objects of the recording itself."""
 
@@ -137,6 +144,7 @@ class Recorded:
         self.exit = recording["exit"]
         self.at = None
         self.told = []
+        # Where the run goes, and what the stop there is told with.
         self.goal = None
         self.held = False
         # The lines last set, by the name of a source.
@@ -204,18 +212,23 @@ class Recorded:
     def start(self):
         self.at = 0
         self.told = list(pieces(self.moments[0].get("output", "")))
-        self.goal = (0, "entry")
+        self.goal = (0, reason_of(self.moments[0], "entry"))
+
+    def ahead(self, is_goal):
+        """The nearest moment ahead that is one, or has a reason of its own; else the exit."""
+        last = len(self.moments)
+        return next((k for k in range(self.at + 1, last) if is_goal(k) or "stop" in self.moments[k]), last)
 
     def target(self, how):
-        last, at = len(self.moments), self.at
+        at = self.at
         if how == "stepIn":
             return at + 1, "step"
         if how == "next":
-            return next((k for k in range(at + 1, last) if self.depth(k) <= self.depth(at)), last), "step"
+            return self.ahead(lambda k: self.depth(k) <= self.depth(at)), "step"
         if how == "stepOut":
-            return next((k for k in range(at + 1, last) if self.depth(k) < self.depth(at)), last), "step"
+            return self.ahead(lambda k: self.depth(k) < self.depth(at)), "step"
         if how == "continue":
-            return next(filter(self.is_at_breakpoint, range(at + 1, last)), last), "breakpoint"
+            return self.ahead(self.is_at_breakpoint), "breakpoint"
         if how == "stepBack":
             return max(at - 1, 0), "step"
         behind = next(filter(self.is_at_breakpoint, range(at - 1, -1, -1)), None)
@@ -223,16 +236,19 @@ class Recorded:
 
     def resume(self, how):
         place, reason = self.target(how)
+        stop = {"reason": reason}
         self.told = []
         self.held = False
         self.values = {}
         if how not in BACK:
             waiting = [k for k in range(self.at + 1, place) if self.moments[k].get("waits", False)]
             if waiting:
-                place, reason, self.held = waiting[0], "pause", True
+                place, stop, self.held = waiting[0], {"reason": "pause"}, True
+            elif place < len(self.moments):
+                stop = reason_of(self.moments[place], reason)
             for moment in self.moments[self.at + 1 : place + 1]:
                 self.told += pieces(moment.get("output", ""))
-        self.goal = (place, reason)
+        self.goal = (place, stop)
 
     def pause(self):
         self.held = False
@@ -246,12 +262,12 @@ class Recorded:
             return "output", self.told.pop(0)
         if self.held:
             return None, None
-        place, reason = self.goal
+        place, stop = self.goal
         if place == len(self.moments):
             self.at = None
             return "exited", self.exit
         self.at = place
-        return "stopped", reason
+        return "stopped", stop
 
 
 class References:
@@ -567,20 +583,23 @@ class Session:
         return {"sources": [self.source(place) for place in range(len(self.debuggee.sources))]}
 
     def polls(self):
-        while self.phase == "Running":
-            what, value = self.debuggee.poll()
-            if what is None:
-                return
-            if what == "output":
-                self.event("output", {"category": "stdout", "output": value})
-            elif what == "stopped":
-                self.phase = "Stopped"
-                thread = self.debuggee.moments[self.debuggee.at]["thread"]
-                self.event("stopped", {"allThreadsStopped": True, "reason": value, "threadId": thread})
-            else:
-                self.end("Exited")
-                self.event("exited", {"exitCode": value})
-                self.event("terminated")
+        while self.phase == "Running" and self.poll_once():
+            pass
+
+    def poll_once(self):
+        """Whether something happened."""
+        what, value = self.debuggee.poll()
+        if what == "output":
+            self.event("output", {"category": "stdout", "output": value})
+        elif what == "stopped":
+            self.phase = "Stopped"
+            thread = self.debuggee.moments[self.debuggee.at]["thread"]
+            self.event("stopped", {"allThreadsStopped": True, **value, "threadId": thread})
+        elif what == "exited":
+            self.end("Exited")
+            self.event("exited", {"exitCode": value})
+            self.event("terminated")
+        return what is not None
 
 
 def main():

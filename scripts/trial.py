@@ -17,7 +17,7 @@ from session_model import Session, frame
 HERE = os.path.dirname(os.path.dirname(os.path.abspath(__file__)))
 DAP = os.environ.get("DAP") or os.path.join(HERE, "bin", "dap")
 EXAMPLES = os.path.join(HERE, "examples")
-RECORDINGS = [os.path.join(EXAMPLES, "recordings", name + ".json") for name in ("a", "deep", "threads")]
+RECORDINGS = [os.path.join(EXAMPLES, "recordings", name + ".json") for name in ("a", "deep", "threads", "crash")]
 RECORDING = RECORDINGS[0]
 failures = []
 # It is removed when the last name for it is gone, at the end.
