@@ -8,8 +8,8 @@
 #     make uninstall PREFIX=$HOME/.local  (removes what the same words installed; folders that others may use stay)
 #     make deb                            (a package for Debian, in out/: scripts/package)
 #
-# These can be given too: BINDIR, LIBDIR, INCLUDEDIR, PKGCONFIGDIR, PYTHONDIR, MANDIR, SHAREDIR, BASHDIR, ZSHDIR, FISHDIR; PROGRAM,
-# the path of the program, and LIBRARY, the folder with the library's files (release).
+# These can be given too: BINDIR, LIBDIR, INCLUDEDIR, PKGCONFIGDIR, PYTHONDIR, MANDIR, SHAREDIR, BASHDIR, ZSHDIR, FISHDIR;
+# PROGRAM, the path of the program, and LIBRARY, the folder with the library's files (release).
 
 PREFIX ?= /usr/local
 DESTDIR ?=
@@ -54,8 +54,8 @@ install-program:
 	$(INSTALL) -D -m 644 release/completions/_dap "$(DESTDIR)$(ZSHDIR)/_dap"
 	$(INSTALL) -D -m 644 release/completions/dap.fish "$(DESTDIR)$(FISHDIR)/dap.fish"
 
-# The names of the shared library are those that the loader and the linker look for. Where it is installed for this machine, the
-# loader is told, if that may be done.
+# The names of the shared library are those that the loader and the linker look for. Where it is installed for this machine,
+# the loader is told, if that may be done.
 install-library: install-program
 	version=$$(sed -n 's/^Version: //p' "$(LIBRARY)/yarntaupe.pc") && \
 	$(INSTALL) -D -m 644 "$(LIBRARY)/libyarntaupe.so" "$(DESTDIR)$(LIBDIR)/libyarntaupe.so.$$version" && \
