@@ -12,7 +12,6 @@ from trial import DAP, EXAMPLES, HERE, bytes_of, expect, expect_in, fine, output
 
 RELEASE = os.path.join(HERE, "release")
 SCRIPTS = "dap-gdb", "dap-record", "dap-transcripts"
-GDB = "adapter.py debuggee.py launch.py lines.py sources.py stops.py streams.py texts.py values.py dap-gdb README.md"
 TOOLS = "dap-record dap-transcripts recorder.py streams.py"
 
 
@@ -106,7 +105,8 @@ def installed_files(python):
     """The paths of all that is installed below PREFIX, and PYTHONDIR. The library is there where release/ has one."""
     pages = ["share/man/man1/" + name for name in os.listdir(os.path.join(RELEASE, "man"))]
     shells = ["bash-completion/completions/dap", "zsh/site-functions/_dap", "fish/vendor_completions.d/dap.fish"]
-    scripts = ["gdb/" + name for name in GDB.split()] + ["tools/" + name for name in TOOLS.split()]
+    gdb = [name for name in os.listdir(os.path.join(EXAMPLES, "gdb")) if name.endswith(".py")]
+    scripts = ["gdb/" + name for name in ["dap-gdb", "README.md", *gdb]] + ["tools/" + name for name in TOOLS.split()]
     library = ["a", "so", "so.0", "so.0.1.0"]
     found = ["bin/dap", *("bin/" + name for name in SCRIPTS), *pages]
     found += ["share/" + path for path in shells] + ["share/yarntaupe/" + path for path in scripts]
