@@ -43,29 +43,53 @@ def no_toolchain():
 
 
 def released():
-    """A small repository, whose program is one line."""
+    """A small repository, whose program is one line, and whose library is made of another one."""
     top = os.path.join(FOLDER, "repository")
     script, made = os.path.join(top, "scripts", "release"), os.path.join(top, "release", "made-of")
-    for name in ("release", "digest"):
+    for name in ("release", "digest", "version", "make-c", "c_header.py"):
         write(os.path.join(top, "scripts", name), text_of("scripts", name))
-    write(os.path.join(top, "crates.txt"), "dap:\n")
-    write(os.path.join(top, "crates", "dap", "src", "main.rt"), "fn main() {}\n")
-    there_is_none = TAKEN + "release: there is none: run scripts/release once the gate has passed\n"
-    expect("release --tell without rt or a release", without_rt(script, "--tell"), (0, there_is_none, ""))
+    write(os.path.join(top, "crates.txt"), "parts:\ndap:\ndap_c staticlib: parts\ndap_c_adapter staticlib: parts\n")
+    write(os.path.join(top, "CHANGELOG.md"), "## [1.2.3] - 2026-11-27\n")
+    for crate in ("parts", "dap", "dap_c", "dap_c_adapter"):
+        write(os.path.join(top, "crates", crate, "src", "main.rt"), "fn main() {}\n")
+    expect("release --tell without rt or a release", without_rt(script, "--tell"), (0, TAKEN + told("there is none", "run"), ""))
     write(os.path.join(top, "release", "dap"), "program\n")
-    status, digest, _ = without_rt(os.path.join(top, "scripts", "digest"), LINE)
-    expect("a digest without rt", (status, len(digest)), (0, 65))
-    write(made, f"{LINE}\n{digest}")
-    these = TAKEN + "release: it was made of these sources\n"
-    expect("release --tell without rt", without_rt(script, "--tell"), (0, these, ""))
+    digests = []
+    for words in ([LINE], ["--library", LINE]):
+        status, digest, _ = without_rt(os.path.join(top, "scripts", "digest"), *words)
+        expect(f"a digest without rt {words[0]}", (status, len(digest)), (0, 65))
+        digests.append(digest)
+    crates = without_rt(os.path.join(top, "scripts", "digest"), "--library", "--crates")
+    expect("the crates of the library", crates, (0, "parts\ndap_c\ndap_c_adapter\n", ""))
+    write(made, "".join([f"{LINE}\n", *digests, "objcopy 1\n"]))
+    these, library = told("it was made of these sources"), told("the library for C was made of these sources")
+    none = told("there is no library for C", "run")
+    tells(script, "with no library", these + none)
+    for name in ("libyarntaupe.a", "libyarntaupe.so", "yarntaupe.h", "yarntaupe.pc"):
+        write(os.path.join(top, "release", name), "library\n")
+    tells(script, "", these + library)
     write(os.path.join(top, "crates", "dap", "out", "dap"), "another\n")
-    another = TAKEN + "release: it is not the program that is made of these sources: run scripts/release\n"
-    expect("release --tell without rt, of another program", without_rt(script, "--tell"), (0, another, ""))
+    another = "release: it is not the program that is made of these sources: run scripts/release\n"
+    tells(script, "of another program", another + library)
+    other_library = told("the library for C was made of other sources", "run")
+    for path in ("crates/parts/src/main.rt", "scripts/make-c"):
+        before = text_of(top, path)
+        write(os.path.join(top, path), before + "\n")
+        tells(script, f"after an edit of {path}", another + other_library)
+        write(os.path.join(top, path), before)
     write(os.path.join(top, "crates", "dap", "src", "main.rt"), "fn main() { }\n")
-    others = TAKEN + "release: it was made of other sources: run scripts/release once the gate has passed\n"
-    expect("release --tell without rt, of other sources", without_rt(script, "--tell"), (0, others, ""))
+    others = told("it was made of other sources", "run")
+    tells(script, "of other sources", others + library)
     for words in ([], ["--check"]):
         expect(f"release without rt {words}", without_rt(script, *words), (1, "", f"release: {NOT_THERE}\n"))
+
+
+def told(text, run=""):
+    return f"release: {text}: run scripts/release once the gate has passed\n" if run else f"release: {text}\n"
+
+
+def tells(script, name, wanted):
+    expect(f"release --tell without rt {name}", without_rt(script, "--tell"), (0, TAKEN + wanted, ""))
 
 
 GROUPS = {"no_toolchain": no_toolchain}

@@ -4,6 +4,7 @@ It knows nothing of gdb, nor what becomes of an answer.
 """
 import json
 import os
+import shutil
 import subprocess
 import tempfile
 
@@ -12,7 +13,9 @@ from texts import pieces_of
 MOST_OUTPUT = 128  # bytes of a piece of output, as `dap host` has it
 MOST_AT_ONCE = 16384  # bytes of lines that are written before their answers are read, so that neither pipe is ever full
 HERE = os.path.dirname(os.path.abspath(__file__))
-DAP = os.environ.get("DAP") or os.path.join(HERE, "..", "..", "bin", "dap")
+# of the sources, or where `make install` put both; the folder of an installed program may be another one, on the PATH
+PLACES = [os.path.join(HERE, *up, "bin", "dap") for up in (("..", ".."), ("..", "..", ".."))]
+DAP = os.environ.get("DAP") or next(filter(os.path.exists, PLACES), None) or shutil.which("dap") or PLACES[0]
 
 
 class Ended(Exception):

@@ -1,8 +1,9 @@
 // judge judges a transcript by the library for C: what is found, and why, in one sentence.
 //
-//	CGO_CFLAGS=-IFOLDER CGO_LDFLAGS="-LFOLDER -lyarntaupe" go run judge.go TRANSCRIPT
+//	CGO_CFLAGS=-IFOLDER CGO_LDFLAGS=FOLDER/libyarntaupe.a go run judge.go TRANSCRIPT
 //
-// FOLDER is where scripts/make-c put yarntaupe.h and libyarntaupe.a.
+// FOLDER has yarntaupe.h and libyarntaupe.a, as release/ of the repository has them. Where they are installed, CGO_LDFLAGS=-lyarntaupe
+// is enough.
 package main
 
 // #include "yarntaupe.h"

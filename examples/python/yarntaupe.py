@@ -1,8 +1,8 @@
 """Yarntaupe for Python, by ctypes: frames, headings, the checker and the client's end.
 
-It needs `libyarntaupe.so`, which `scripts/make-c` makes, and nothing else; the environment's `YARNTAUPE` names it where it is
-not beside this file. The library answers codes: here they become the exception `Refused`, but for those that say how far a
-call has come.
+It needs `libyarntaupe.so`, and nothing else: the one that the environment's `YARNTAUPE` names, else the one beside this file, else
+the one that `make install` put somewhere with this file. The library answers codes: here they become the exception `Refused`, but
+for those that say how far a call has come.
 """
 import ctypes as c
 import json
@@ -13,7 +13,9 @@ OK, READY, FINDING, FRAME, SMALL, NOTHING = 0, 1, 2, 31, 105, 106
 PHASES = ("fresh", "initializing", "configuring", "running", "stopped", "resuming", "exited", "ended")
 KINDS = ("none", "request", "response", "event", "other")
 
-library = c.CDLL(os.environ.get("YARNTAUPE", os.path.join(HERE, "libyarntaupe.so")))
+INSTALLED = "libyarntaupe.so.0"  # `make install` writes its whole path
+BESIDE = os.path.join(HERE, "libyarntaupe.so")
+library = c.CDLL(os.environ.get("YARNTAUPE") or (BESIDE if os.path.exists(BESIDE) else INSTALLED))
 
 
 def struct(title, /, **fields):

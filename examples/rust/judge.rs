@@ -2,7 +2,7 @@
 //!
 //!     rustc judge.rs -L FOLDER -l static=yarntaupe && ./judge TRANSCRIPT
 //!
-//! FOLDER is where `scripts/make-c` put libyarntaupe.a. `judge` is the whole of the unsafe code.
+//! FOLDER has libyarntaupe.a, as `release` of the repository has it. `judge` is the whole of the unsafe code.
 use std::process::ExitCode;
 
 #[repr(C)]
