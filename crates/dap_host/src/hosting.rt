@@ -148,7 +148,14 @@ impl Hosting {
         if is_none(&self.held, is_long) {
             return Ok(());
         }
-        match answer_line(alloc, channel, &mut self.host, &self.held, is_long, self.written) {
+        match answer_line(
+            alloc,
+            channel,
+            &mut self.host,
+            &self.held,
+            is_long,
+            self.written,
+        ) {
             Ok(_written) => {}
             Err(fault) => return Err(fault),
         }

@@ -64,8 +64,11 @@ static LIMIT_OPTIONS: [LimitOption; 7] = [
 /// The option that bounds a line of a host, with its least and its greatest value, and the one where it is not given: a line has
 /// room for a message of a body of that size, and for the mark before it.
 const MAX_LINE: &str = "max-line";
+
 const LEAST_LINE: u64 = 1026;
+
 const GREATEST_LINE: u64 = 1073741826;
+
 const USUAL_LINE: u64 = 16777218;
 
 /// What the help says of each option that sets a limit, in order.
