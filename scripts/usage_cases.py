@@ -13,6 +13,7 @@ LIMITS = SIZES + [
     ("max-seq", 1, 9007199254740991, 9007199254740991),
     ("max-reference", 1, 2147483647, 2147483647),
 ]
+LINE = [("max-line", 1026, 1073741826, 16777218)]
 NO_UTF_8 = (2, b"", b"dap: a word of the command line is not UTF-8\n")
 NO_WORD = "\udcff"
 
@@ -59,6 +60,8 @@ def usage():
     statuses = b"Statuses: 0 the session or the input ended, 2 usage, 3 ", b"6 memory"
     out = helped("help of serve", ["serve"], "help of serve: statuses", *statuses)
     options_of("serve", out, ["serve", RECORDING], ["serve", "x"], LIMITS, "")
+    out = helped("help of host", ["host"], "help of host: statuses", b"Statuses: 0 the input ended, 2 usage, 3 ")
+    options_of("host", out, ["host", RECORDING], ["host", "x"], LIMITS + LINE, "host ")
     try_usage([
         (["serve"], b"<RECORDING>"),
         (["serve", "x", "y"], b"unexpected argument 'y'"),

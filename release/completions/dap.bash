@@ -13,7 +13,7 @@ _dap() {
         --any-seq) COMPREPLY=($(compgen -W 'client adapter both' -- "$word")); return ;;
     esac
     # A number comes after these, as a word of its own or after a sign of equality.
-    case $before in --max-body | --max-breakpoints | --max-header | --max-reference | --max-references | --max-requests | --max-seq | =) return ;; esac
+    case $before in --max-body | --max-breakpoints | --max-header | --max-line | --max-reference | --max-references | --max-requests | --max-seq | =) return ;; esac
     case $command in
         serve) options='--explain --max-header --max-body --max-requests --max-references --max-breakpoints --max-seq --max-reference -h --help' ;;
         show) options='--json --reasons --keep-going --explain --max-header --max-body -h --help' ;;
@@ -21,7 +21,7 @@ _dap() {
         unwrap) options='--explain --max-header --max-body -h --help' ;;
         check) options='--all --any-seq --bodies --explain --open -h --help' ;;
         drive) options='--check --explain --max-header --max-body --max-requests --max-references --max-breakpoints --max-seq --max-reference -h --help' ;;
-        host) options='--explain --max-header --max-body --max-requests --max-references --max-breakpoints --max-seq --max-reference -h --help' ;;
+        host) options='--explain --max-header --max-body --max-requests --max-references --max-breakpoints --max-seq --max-reference --max-line -h --help' ;;
         help)
             if ((COMP_CWORD == 2)); then COMPREPLY=($(compgen -W 'serve show wrap unwrap check drive host' -- "$word")); fi
             return

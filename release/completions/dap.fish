@@ -64,5 +64,6 @@ complete -c dap -n '__fish_seen_subcommand_from host; and not __fish_seen_subcom
 complete -c dap -n '__fish_seen_subcommand_from host; and not __fish_seen_subcommand_from help' -l max-breakpoints -x -d 'Breakpoints set at once, 1 to 65536 [default: 4096]'
 complete -c dap -n '__fish_seen_subcommand_from host; and not __fish_seen_subcommand_from help' -l max-seq -x -d 'Greatest sequence number given, 1 to 9007199254740991 [default: 9007199254740991]'
 complete -c dap -n '__fish_seen_subcommand_from host; and not __fish_seen_subcommand_from help' -l max-reference -x -d 'Greatest number of a reference, 1 to 2147483647 [default: 2147483647]'
+complete -c dap -n '__fish_seen_subcommand_from host; and not __fish_seen_subcommand_from help' -l max-line -x -d 'Greatest length of a line in, 1026 to 1073741826 [default: 16777218]'
 complete -c dap -n '__fish_seen_subcommand_from host; and not __fish_seen_subcommand_from help' -s h -l help -d 'Print help'
 complete -c dap -n '__fish_seen_subcommand_from help' -a 'serve show wrap unwrap check drive host'
