@@ -254,12 +254,9 @@ class Adapter:
             self.end_program()
 
     def set_breakpoints(self, source, lines):
-        place = source.get("sourceReference", 0) - 1
-        path = source.get("path", self.sources.all[place].get("path"))
+        path = source.get("path", self.sources.all[source.get("sourceReference", 0) - 1].get("path"))
         if path:
             self.debuggee.set_points(path, lines)
-        else:
-            self.debuggee.set_points_at(place, filter(None, (self.sources.spot(place, line) for line in lines)))
 
     def start(self, launch):
         self.started, self.running = True, True

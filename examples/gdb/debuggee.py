@@ -127,7 +127,7 @@ class Watch:
 class Debuggee:
     def __init__(self, watch):
         self.watch, self.attached = watch, False
-        self.points = {}  # of each path, or place of code, its breakpoints
+        self.points = {}  # of each path, its breakpoints
         self.waiting = {}  # of each breakpoint whose code was not loaded yet, its source and line
 
     @property
@@ -172,18 +172,12 @@ class Debuggee:
 
     def set_points(self, path, lines):
         """These lines replace all others of a source."""
-        self.replace(path, [point_at(source=path, line=line) for line in lines])
-        self.waiting.update((point, (path, line)) for point, line in zip(self.points[path], lines) if point.pending)
-
-    def set_points_at(self, place, spots):
-        """These spots, in gdb's words, replace all others of a place."""
-        self.replace(place, [point_at(spec=spot) for spot in spots])
-
-    def replace(self, key, points):
-        for point in self.points.pop(key, []):
+        for point in self.points.pop(path, []):
             self.waiting.pop(point, None)
             point.delete()
-        self.points[key] = points
+        self.points[path] = [point_at(source=path, line=line) for line in lines]
+        self.waiting.update((point, (path, line)) for point, line in zip(self.points[path], lines) if point.pending)
+
 
     def points_found(self):
         """The breakpoints that waited for their code, which is loaded now: of each its source, its line, and where it is."""

@@ -44,17 +44,16 @@ class Stop:
                 frame = frame.older()
             if frame:
                 self.frames.append((thread.num, MOST_FRAMES))
-                frames.append({"name": "(more frames than these %d)" % MOST_FRAMES, "source": 0, "line": 1})
+                frames.append({"name": "(more frames than these %d)" % MOST_FRAMES})
         except gdb.error as fault:
             self.frames += [] if frames else [(thread.num, 0)]
-            frames = frames or [{"name": "<%s>" % clean(fault), "source": 0, "line": 1}]
+            frames = frames or [{"name": "<%s>" % clean(fault)}]
         return {"id": thread.num, "name": clean(thread.name or "thread"), "frames": frames}
 
     def frame(self, frame, thread, level):
-        place, line = self.sources.place_of(frame)
+        source = self.sources.of(frame)
         self.frames.append((thread, level))
-        name = name_of(frame, self.sources.is_file(place))
-        return {"name": name, "source": place, "line": line, "scopes": self.scopes_of(frame)}
+        return {"name": name_of(frame, bool(source)), **source, "scopes": self.scopes_of(frame)}
 
     def scopes_of(self, frame):
         try:
@@ -64,7 +63,7 @@ class Stop:
         for arguments in False, True:
             self.holders[self.scopes] = self.frames[-1], lambda arguments=arguments: scope_of(arguments)
             self.scopes += 1
-        return [{"name": "Locals", "variables": []}, {"name": "Arguments", "variables": []}]
+        return [{"name": "Locals"}, {"name": "Arguments"}]
 
     def is_told(self, holder):
         return holder in self.told

@@ -8,7 +8,7 @@ static const char BASE[] =
 static const char SHOWS[] =
     "{\"exit\":0,\"sources\":[{\"name\":\"a.c\",\"path\":\"/w/a.c\",\"text\":\"1\\n2\\n3\\n4\\n\"}],"
     "\"moments\":[{\"threads\":[{\"id\":7,\"name\":\"main\",\"frames\":[{\"name\":\"f\",\"source\":0,\"line\":3,"
-    "\"scopes\":[{\"name\":\"Locals\",\"variables\":[{\"name\":\"x\",\"value\":\"41\"}]},{\"name\":\"Globals\",\"variables\":[]}]}]}],\"thread\":7}]}";
+    "\"scopes\":[{\"name\":\"Locals\",\"variables\":[{\"name\":\"x\",\"value\":\"41\"}]},{\"name\":\"Globals\"}]}]}],\"thread\":7}]}";
 
 static yt_adapter adapter;
 static yt_found found;
