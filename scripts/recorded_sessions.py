@@ -190,8 +190,8 @@ MOVES = ("setBreakpoints", "configurationDone", "continue", "next", "stepIn", "s
 
 
 def reason_of(stopped):
-    """The reason, and what else is told of it."""
-    return [stopped[key] for key in ("reason", "description", "text") if key in stopped]
+    """The reason: what else was told of it, the recording has, and no event of its own tells."""
+    return stopped["reason"]
 
 
 # Recordings that were written by hand, played to a client, and recorded again.

@@ -129,10 +129,8 @@ class Closed(Exception):
 
 
 def reason_of(moment, other):
-    """What a stop there is told with: the reason that the moment has, with its texts, or else the move's own."""
-    if "stop" not in moment:
-        return {"reason": other}
-    return {"reason": moment["stop"], **{key: moment[key] for key in ("description", "text") if key in moment}}
+    """What a stop there is told with: the reason that the moment has, or else the move's own. No event tells its texts."""
+    return {"reason": moment.get("stop", other)}
 
 
 class Recorded:
