@@ -67,26 +67,32 @@ values = (refl, refl, refl, refl)
 nothing_shown : (threads_in (now_shown NotStarted None) ≡ []) × (threads_in (now_shown Running None) ≡ []) × (children_in (now_shown Stopped None) 0 ≡ None) × (assigned_by (Some (codes "2")) (codes "x") None ≡ None)
 nothing_shown = (refl, refl, refl, refl)
 
--- ---- a moment of one frame with two scopes: the first has no variables, the second has x
+-- ---- a moment of one frame with two scopes: the first came without its variables, the second has x
 
 abbrev one : List ℕ → List Variable
 one value = record { name = codes "x"; value = value; holder = None } ∷ []
 
-abbrev recorded : Played
-recorded = fresh_played (record {
+-- with these holders of scopes that came without their variables
+abbrev recorded_with : List ℕ → Played
+recorded_with untold = fresh_played (record {
   exit = pos 0;
   sources = record { name = codes "a"; path = None; text = codes "x"; on_disk = false; lines = 1 } ∷ [];
   moments = record {
-    threads = record { id = pos 1; name = codes "main"; frames = record { object = 0; name = codes "f"; source = 0; line = 1 } ∷ [] } ∷ [];
+    threads = record { id = pos 1; name = codes "main"; frames = record { object = 0; name = codes "f"; source = Some 0; line = 1 } ∷ [] } ∷ [];
     thread = 0;
     output = [];
     waits = false;
+    stop = None;
     frames = record { from = 0; to = 1 };
     holders = record { from = 0; to = 2 };
   } ∷ [];
   scopes = (record { name = codes "Locals"; holder = 0 } ∷ record { name = codes "Globals"; holder = 1 } ∷ []) ∷ [];
   variables = [] ∷ one (codes "1") ∷ [];
+  untold = untold;
 })
+
+abbrev recorded : Played
+recorded = recorded_with (0 ∷ [])
 
 abbrev begun : Played
 begun = record recorded { state = Running }
@@ -101,6 +107,13 @@ told_more = with_told 7 (one (codes "3")) (with_told 0 (one (codes "2")) (shows 
 -- a scope without variables has none, or is still to be told
 scopes_of_a_stop : (children_in (shows false) 0 ≡ Some []) × (children_in (shows true) 0 ≡ None) × (children_in (shows true) 1 ≡ Some (one (codes "1"))) × (children_in (shows false) 7 ≡ None) × (children_in (now_shown Gone (shows false)) 0 ≡ None)
 scopes_of_a_stop = (refl, refl, refl, refl, refl)
+
+-- one that came with no variables has none, whether more is told later or not
+abbrev told_empty : Bool → Option Here
+told_empty later = Some (record { moment = (let fresh : Played = recorded_with [] in record fresh { state = Running }); later = later; told = [] })
+
+empty_scopes : (children_in (told_empty true) 0 ≡ Some []) × (children_in (told_empty false) 0 ≡ Some []) × (why_untold (told_empty true) 0 ≡ Some Told) × (children_in (told_empty true) 7 ≡ None) × (why_untold (told_empty true) 7 ≡ None)
+empty_scopes = (refl, refl, refl, refl, refl)
 
 told_later : (children_in told_more 0 ≡ Some (one (codes "2"))) × (children_in told_more 1 ≡ Some (one (codes "1"))) × (children_in told_more 7 ≡ Some (one (codes "3"))) × (children_in told_more 8 ≡ None) × (children_in (with_told 0 [] (shows true)) 0 ≡ Some [])
 told_later = (refl, refl, refl, refl, refl)

@@ -1,6 +1,6 @@
 -- What a debuggee that a host feeds is seen as, and what it shows: what the host told last.
 -- This profile's choice.
-use Rattle.std.specs.Prelude.{ℕ, ℤ, ◌≤◌, Bool, true, List, [], ◌∷◌, length, Option, Some, None, option_map, option_and_then, bytes_eq, if◌then◌else◌}
+use Rattle.std.specs.Prelude.{ℕ, ℤ, ◌≤◌, Bool, ◌&&◌, List, [], ◌∷◌, length, Option, Some, None, option_map, option_and_then, bytes_eq, if◌then◌else◌}
 use Rattle.dap_debuggee.specs.Shown.{Shown, Last}
 use Rattle.dap_debuggee.specs.Laws.{variable_named}
 use Rattle.dap_debuggee.specs.declared.answers.State.{State}
@@ -11,7 +11,7 @@ use Rattle.dap_debuggee.specs.declared.answers.Scope.{Scope}
 use Rattle.dap_debuggee.specs.declared.answers.Variable.{Variable}
 use Rattle.dap_debuggee.specs.declared.answers.Evaluation.{Evaluation}
 use Rattle.dap_debuggee.specs.declared.answers.Assigned.{Assigned}
-use Rattle.dap_replay.specs.Played.{Played, shown_of, lines_in, first_of, variables_at, evaluation, assigned_of}
+use Rattle.dap_replay.specs.Played.{Played, is_untold, shown_of, lines_in, first_of, variables_at, evaluation, assigned_of}
 use Rattle.dap_tables.specs.SourceMap.{OfSource}
 use Rattle.dap_live.specs.declared.held.Learned.{Learned}
 use Rattle.dap_live.specs.declared.here.Here.{Here}
@@ -72,15 +72,14 @@ abbrev pub scopes_in : Option Here → ℕ → Option (List Scope)
 scopes_in None frame = None
 scopes_in (Some here) frame = (shown_of here.moment).scopes frame
 
--- where more is told later, a holder without variables is still to be told
-abbrev pub unless_later : Bool → List Variable → Option (List Variable)
-unless_later true [] = None
-unless_later later variables = Some variables
+-- where more is told later, a scope that came without its variables is still to be told
+abbrev pub is_to_come : Here → ℕ → Bool
+is_to_come here holder = here.later && is_untold here.moment holder
 
 -- what was told or set comes before what the moment has
 abbrev pub children_in : Option Here → ℕ → Option (List Variable)
 children_in None holder = None
-children_in (Some here) holder = first_of (variables_at holder here.told) (option_and_then (unless_later here.later) ((shown_of here.moment).children holder))
+children_in (Some here) holder = first_of (variables_at holder here.told) (if is_to_come here holder then None else (shown_of here.moment).children holder)
 
 -- the first variable of a name, in the first scope that has one; none where a scope before that is still to be told
 abbrev pub variable_in : (ℕ → Option (List Variable)) → List ℕ → List Scope → Option Variable

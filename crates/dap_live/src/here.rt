@@ -13,7 +13,7 @@ const MAX_HOLDERS: usize = 65536;
 pub(crate) struct Here {
     /// Its first moment.
     pub(crate) moment: Recorded,
-    /// Whether more is told later: a holder of the moment that has no variables is still to be told.
+    /// Whether more is told later: a scope of the moment that came without its variables is still to be told.
     pub(crate) later: bool,
     /// The variables of the holders that were told later, and of those in which a value was set. They come before the moment's.
     pub(crate) told: HolderMap,
@@ -32,11 +32,10 @@ impl Here {
         if let Some(variables) = self.told.get(holder) {
             return Some(variables);
         }
-        let variables = self.moment.children_at(holder)?;
-        if self.later && variables.is_empty() {
+        if self.later && self.moment.is_untold(holder) {
             return None;
         }
-        Some(variables)
+        self.moment.children_at(holder)
     }
 
     /// Why variables of a holder are not heard.

@@ -23,8 +23,8 @@ pub enum Coming {
         reason: Text,
         thread: i64,
         shows: Recorded,
-        /// Whether more is told later. A holder of the moment that has no variables is then refused until they are told; else it
-        /// has none.
+        /// Whether more is told later. A scope of the moment that came without its variables is then refused until they are told;
+        /// else it has none, like one that came with no variables.
         later: bool,
     },
     /// It went on by itself.
