@@ -4,7 +4,7 @@ import json
 import os
 import resource
 
-from recorded_sessions import RECORD, again, broken, examples, live, live_ends
+from recorded_sessions import RECORD, again, broken, by_moves, examples, live, live_ends
 from trial import FOLDER, MISSING, bound, bytes_of, expect, expect_in, file_of, fine, output_of, recording_of, run, try_rows
 
 TEXT = "one\ntwo\nthree\n"
@@ -404,7 +404,8 @@ REASONS = [
         [ENTERED, passed(3, stop="breakpoint")],
     ),
     (
-        "one set by the source's number", [*placed(3, source=NUMBER), *AT_ENTRY, *goes("continue"), *BY_NUMBER], NUMBERED, NO_MADE,
+        "one set by the source's number", [*placed(3, source=NUMBER), *AT_ENTRY, *goes("continue"), *BY_NUMBER], NUMBERED,
+        NO_MADE,
     ),
     (
         "one that is set no more", [*placed(3), *AT_ENTRY, *placed(), *goes("continue"), *halted("breakpoint", 3)],
@@ -456,7 +457,10 @@ REASONS = [
     ),
     (
         "one met by stepOut, and a signal met by stepIn",
-        [*BEGIN, *halted("entry", 1, 2), *goes("stepOut"), *halted("breakpoint", 3, 3), *goes("stepIn"), *halted("signal", 2, 4)],
+        [
+            *BEGIN, *halted("entry", 1, 2), *goes("stepOut"), *halted("breakpoint", 3, 3), *goes("stepIn"),
+            *halted("signal", 2, 4),
+        ],
         [passed(1, 2), passed(3, 3, stop="breakpoint"), passed(2, 4, stop="signal")],
     ),
     (
@@ -467,7 +471,10 @@ REASONS = [
         "one out of a function that ends in it", [*BEGIN, *halted("entry", 1, 2), *goes("stepOut"), *halted("step", 2, 2)],
         [passed(1, 2), passed(2, 2)], GOES_BY("stepOut"),
     ),
-    ("a step that continue came to", [*AT_ENTRY, *goes("continue"), *halted("step", 2)], [ENTERED, passed(2)], GOES_BY("continue")),
+    (
+        "a step that continue came to", [*AT_ENTRY, *goes("continue"), *halted("step", 2)], [ENTERED, passed(2)],
+        GOES_BY("continue"),
+    ),
     (
         "a pause of the client's", [*AT_ENTRY, *goes("continue"), *goes("pause"), *halted("pause", 2, 2, **CRASH)],
         [ENTERED, passed(2, 2, waits=True)],
@@ -485,7 +492,8 @@ REASONS = [
         [ENTERED, passed(3, waits=True, stop="pause")],
     ),
     (
-        "a pause with another reason", [*AT_ENTRY, *goes("continue"), *goes("pause"), *halted("signal", 2, description="SIGSTOP")],
+        "a pause with another reason",
+        [*AT_ENTRY, *goes("continue"), *goes("pause"), *halted("signal", 2, description="SIGSTOP")],
         [ENTERED, passed(2, waits=True, stop="signal", description="SIGSTOP")],
     ),
     ("a pause that nobody asked for", [*AT_ENTRY, *goes("continue"), *halted("pause", 2)], [ENTERED, passed(2, stop="pause")]),
@@ -497,7 +505,8 @@ REASONS = [
     (
         "a restart to the entry",
         [("launch", {}, None), *AT_ENTRY, ("restart", {}, None), *halted("entry"), *goes("next"), *halted("step", 2)],
-        [ENTERED, passed(stop="entry"), passed(2)], "the program was started again after stop 1: its stops follow those before",
+        [ENTERED, passed(stop="entry"), passed(2)],
+        "the program was started again after stop 1: its stops follow those before",
     ),
     (
         "moves back", [
@@ -520,7 +529,10 @@ REASONS = [
     ),
     (
         "texts that are too long",
-        [*BEGIN, *halted("r" * 64, description="d" * 129, text="\u00e9" * 64), *goes("continue"), *halted("x" + "\u00e9" * 32, 2)],
+        [
+            *BEGIN, *halted("r" * 64, description="d" * 129, text="\u00e9" * 64), *goes("continue"),
+            *halted("x" + "\u00e9" * 32, 2),
+        ],
         [passed(stop="r" * 64, description="d" * 128, text="\u00e9" * 64), passed(2, stop="x" + "\u00e9" * 31)],
         "stop 1: description of 129 bytes cut: a recording has at most 128",
         "stop 2: reason of 65 bytes cut: a recording has at most 64",
@@ -528,7 +540,8 @@ REASONS = [
     (
         "reasons that are none",
         [
-            *BEGIN, *halted(None), *goes("next"), *halted(7, 2, **CRASH), *goes("next"), *halted("signal", 3, description=7, text=None),
+            *BEGIN, *halted(None), *goes("next"), *halted(7, 2, **CRASH), *goes("next"),
+            *halted("signal", 3, description=7, text=None),
         ],
         [passed(), passed(2), passed(3, stop="signal")],
     ),
@@ -543,7 +556,8 @@ REASONS = [
 
 
 def holding(expression, result, reference, frame=5, **more):
-    return ("evaluate", {"expression": expression, "frameId": frame}, {"result": result, "variablesReference": reference, **more})
+    told = {"result": result, "variablesReference": reference, **more}
+    return ("evaluate", {"expression": expression, "frameId": frame}, told)
 
 
 P = [named("p", value="{..}"), named("n", value="1")]
@@ -555,7 +569,8 @@ EVALUATED = [
         evaluations(of_looked(*P), named("p.b", value="2"), named("p.a", value="1")),
     ),
     (
-        "one with what it holds", looked(variables(7), variables(8), holding("f()", "[..]", 12), variables(12, variable("0", "x"))),
+        "one with what it holds",
+        looked(variables(7), variables(8), holding("f()", "[..]", 12), variables(12, variable("0", "x"))),
         evaluations(of_looked(), named("f()", named("0", value="x"), value="[..]")),
     ),
     (
@@ -813,6 +828,7 @@ def recorded_group():
     limits()
     faults()
     again()
+    by_moves()
     examples()
     live()
     live_ends()
