@@ -11,7 +11,9 @@ import sys
 
 import recorder
 from client import Client
-from trial import DAP, EXAMPLES, FOLDER, HERE, RECORDINGS, bytes_of, expect, expect_in, fine, output_of, recording_of, run
+from random_sessions import Guided, random_recording
+from trial import DAP, EXAMPLES, FOLDER, HERE, RECORDINGS, bytes_of, expect, expect_in, file_of, fine, frames_of, output_of
+from trial import recording_of, run, split
 
 RECORD = os.path.join(HERE, "scripts", "record")
 TRANSCRIPTS = os.path.join(HERE, "scripts", "transcripts")
@@ -245,6 +247,77 @@ def again():
         status, errors = client.end()
         expect(f"record {name} again: ends well", (status, len(errors)), (0, 1))
         expect(f"record {name} again", plain(recording_of(out)), plain(recording_of(path)))
+
+
+# Random sessions over recordings with reasons of stops, recorded, and played by the same requests.
+
+
+def by_moves():
+    """The same requests give the same stops, with the same reasons, up to the exit."""
+    wrong, stops, own = [], 0, 0
+    for seed in range(200):
+        choice = random.Random(seed)
+        guided = moved_session(choice, file_of("moved", with_reasons(random_recording(choice))))
+        session = recorder.Session()
+        for one, answer in zip(guided.requests, guided.answers):
+            session.hear(True, one)
+            for _, body in split(answer):
+                session.hear(False, json.loads(body))
+        made, _ = recorder.recording_of(session, True)
+        status, out, err = run(["serve", file_of("again", made)], b"".join(frames_of(guided.requests)))
+        wanted = list(ways_of(b"".join(guided.answers), made["moments"]))
+        stops += sum(isinstance(one, tuple) for one in wanted)
+        own += sum("stop" in one for one in made["moments"])
+        if (status, list(ways_of(out, made["moments"])), err) != (0, wanted, b""):
+            wrong.append(seed)
+    expect(f"record: random sessions with {stops} stops, of which {own} have a reason of their own", wrong, [])
+    expect("record: random sessions have such, and others", stops > 2 * own > 400, True)
+
+
+def with_reasons(recording):
+    """A step that nobody made has no reason in a session; nor has what has none."""
+    for one in recording["moments"]:
+        if one.get("stop") in ("step", ""):
+            del one["stop"]
+    return recording
+
+
+def moved_session(choice, path):
+    """Lines are set at any time, and each stop is looked into. A run that is held is paused."""
+    guided = Guided(path)
+    guided.ask("initialize", {"adapterID": "rec"})
+    guided.ask("launch")
+    set_some_lines(guided, choice)
+    guided.ask("configurationDone")
+    while guided.session.phase != "Exited":
+        if choice.randrange(3) == 0:
+            set_some_lines(guided, choice)
+        if guided.session.phase == "Running":
+            guided.ask("pause", {"threadId": 0})
+        else:
+            there = guided.session.debuggee
+            thread = {"threadId": there.moments[there.at]["thread"]}
+            guided.ask("stackTrace", thread)
+            guided.ask(choice.choice(["continue", "continue", "next", "stepIn", "stepOut"]), thread)
+    guided.ask("disconnect")
+    return guided
+
+
+def set_some_lines(guided, choice):
+    lines = [{"line": choice.randrange(1, 5)} for _ in range(choice.choice([0, 1, 1, 2]))]
+    guided.ask("setBreakpoints", {"source": {"path": choice.choice(["/a", "/b"])}, "breakpoints": lines})
+
+
+def ways_of(stream, moments):
+    """Of each stop the thread and what is said of it, and the exit code."""
+    place = 0
+    for message in (json.loads(body) for _, body in split(stream)):
+        if message.get("event") == "stopped":
+            told = reason_of(message["body"])
+            yield message["body"]["threadId"], *(told if "stop" in moments[place] else told[:1])
+            place = min(place + 1, len(moments) - 1)
+        elif message.get("event") == "exited":
+            yield message["body"]["exitCode"]
 
 
 # A session as it goes on, and its ends.
