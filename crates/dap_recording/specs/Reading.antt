@@ -235,6 +235,10 @@ abbrev pub untold_of : Items → List Scope → List ℕ
 untold_of (item d ds) (scope ∷ scopes) = if is_some (value_at key.Variables d) then untold_of ds scopes else scope.holder ∷ untold_of ds scopes
 untold_of ds scopes = []
 
+-- who tells the moments of a recording, for crates above
+abbrev pub recorder : Teller
+recorder = teller.Recording
+
 -- the source of a frame: a recording has to tell one, a host may tell none
 abbrev pub frame_source : Teller → List RecordedSource → Data → Read (Option ℕ)
 frame_source teller.Recording sources d = do

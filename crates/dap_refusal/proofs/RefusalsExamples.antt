@@ -1,11 +1,11 @@
 -- Worked examples of why JSON is no recording, each shown by computation.
-use Rattle.std.proofs.Common.{◌≡◌, List, ℕ, [], ◌∷◌, codes, Option, Some, None, pos, negsuc, refl}
+use Rattle.std.proofs.Common.{◌≡◌, List, ℕ, [], ◌∷◌, codes, replicate, Option, Some, None, pos, negsuc, refl}
 use Rattle.serde_json.specs.Data.{Data, null, number, unsigned, negative, string, array, object, Items, no_items, item, Members, no_members, put}
 use Rattle.dap_refusal.specs.Refusals.{refusal_of, scope_row, scopes_row, frame_row, thread_row, moment_row, source_row, recording_row}
 use Rattle.dap_recording.specs.declared.reading.RecordingKey.{RecordingKey}
 use Rattle.dap_recording.specs.declared.reading.RecordingKey.TheVariants as key
 use Rattle.dap_refusal.specs.declared.refusal.BadCause.{BadCause}
-use Rattle.dap_refusal.specs.declared.refusal.BadCause.TheVariants.{Absent, OtherKind, NoElements, OutOfRange, NoSource, PastLines, DuplicateId, NoThread}
+use Rattle.dap_refusal.specs.declared.refusal.BadCause.TheVariants.{Absent, OtherKind, NoElements, TooLong, OutOfRange, NoSource, PastLines, DuplicateId, NoThread}
 use Rattle.dap_refusal.specs.declared.refusal.Element.{Element}
 use Rattle.dap_refusal.specs.declared.refusal.JsonKind.TheVariants as kind
 use Rattle.dap_refusal.specs.declared.refusal.RecordingRefusal.{RecordingRefusal}
@@ -141,3 +141,33 @@ twice = refl
 no_such_thread : refusal_of (Some (with_threads (item thread_1 no_items) (whole 2))) ≡ bad (at key.Moments 0 ∷ []) key.Thread None (NoThread (pos 2))
 unfolding recording_row source_row moment_row thread_row frame_row scopes_row scope_row
 no_such_thread = refl
+
+-- ---- a stop of a moment's own
+
+abbrev moment_saying : Members → Data
+moment_saying rest = recording_with (whole 0) (one source_a) (one (moment_with (one thread_1) (whole 1) rest))
+
+long_reason : refusal_of (Some (moment_saying (put (codes "stop") (text (replicate 70 97)) no_members))) ≡ bad (at key.Moments 0 ∷ []) key.Stop None (TooLong 70 64)
+unfolding recording_row source_row moment_row thread_row frame_row scopes_row scope_row
+long_reason = refl
+
+long_description : refusal_of (Some (moment_saying (put (codes "description") (text (replicate 129 97)) no_members))) ≡ bad (at key.Moments 0 ∷ []) key.Description None (TooLong 129 128)
+unfolding recording_row source_row moment_row thread_row frame_row scopes_row scope_row
+long_description = refl
+
+null_text : refusal_of (Some (moment_saying (put (codes "text") null no_members))) ≡ bad (at key.Moments 0 ∷ []) key.Text None (OtherKind kind.Null kind.Text)
+unfolding recording_row source_row moment_row thread_row frame_row scopes_row scope_row
+null_text = refl
+
+-- the longest, and the reason before the description
+longest_reason : refusal_of (Some (moment_saying (put (codes "stop") (text (replicate 64 97)) (put (codes "text") (text (replicate 128 97)) no_members)))) ≡ None
+unfolding recording_row source_row moment_row thread_row frame_row scopes_row scope_row
+longest_reason = refl
+
+reason_before_description : refusal_of (Some (moment_saying (put (codes "description") null (put (codes "stop") (whole 1) no_members)))) ≡ bad (at key.Moments 0 ∷ []) key.Stop None (OtherKind kind.Number kind.Text)
+unfolding recording_row source_row moment_row thread_row frame_row scopes_row scope_row
+reason_before_description = refl
+
+without_a_source : refusal_of (Some (over (object (put (codes "name") (text (codes "f")) (put (codes "line") (whole 1) no_members))))) ≡ bad in_frame key.Source None Absent
+unfolding recording_row source_row moment_row thread_row frame_row scopes_row scope_row
+without_a_source = refl

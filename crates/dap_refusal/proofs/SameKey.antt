@@ -11,11 +11,11 @@ use Rattle.dap_json.specs.Steps.{◌>>=◌, ◌>>◌}
 use Rattle.dap_json.specs.Field.{if_passes, is_object}
 use Rattle.dap_command.specs.Numbers.{int_of, number_of}
 use Rattle.dap_recording.specs.Reading as read
-use Rattle.dap_recording.specs.Reading.{Read, Holders, Numbered, or_bad, in_shape, required_at, value_at, exit_of, line_of, place_of, verdict_of, or_fault, recording_of, source_of, moment_of, moments_of, thread_of, frame_of, scope_of, scopes_of}
+use Rattle.dap_recording.specs.Reading.{Read, Holders, Numbered, none_numbered, recorder, or_bad, short_text, frame_source, frame_line, stop_of, in_shape, required_at, value_at, exit_of, line_of, place_of, verdict_of, or_fault, recording_of, source_of, moment_of, moments_of, thread_of, frame_of, scope_of, scopes_of}
 use Rattle.dap_recording.specs.Recording.{line_count}
 use Rattle.dap_recording.specs.RecordingKey.{name_of}
 use Rattle.dap_refusal.specs.Refusals
-use Rattle.dap_refusal.specs.Refusals.{Checked, here, element_here, within, kind_of, other_than, or_here, due_in, due_at, any_in, any_at, in_place, in_element, each_element, has_id, place_below, other_id, known_id, variable_in, variables_in, each_variable, variables_among, variables_if_any, scope_row, scopes_row, frame_row, thread_row, moment_row, source_row, recording_row, bad_key_in, refusal_of, IsWhy, RefusalsAreFaults, no_exit, source_cause, line_cause, id_cause, thread_cause, lines_at}
+use Rattle.dap_refusal.specs.Refusals.{Checked, text_cause, own_stop_row, here, element_here, within, kind_of, other_than, or_here, due_in, due_at, any_in, any_at, in_place, in_element, each_element, has_id, place_below, other_id, known_id, variable_in, variables_in, each_variable, variables_among, variables_if_any, scope_row, scopes_row, frame_row, thread_row, moment_row, source_row, recording_row, bad_key_in, refusal_of, IsWhy, RefusalsAreFaults, no_exit, source_cause, line_cause, id_cause, thread_cause, lines_at}
 use Rattle.dap_debuggee.specs.declared.answers.Variable.{Variable}
 use Rattle.dap_recording.specs.declared.reading.RecordingKey.{RecordingKey}
 use Rattle.dap_recording.specs.declared.reading.RecordingKey.TheVariants as key
@@ -246,12 +246,11 @@ agree_scope n d holders = agree_element Any key.Scopes n d _ _
 abbrev No : {A T : Type 0} → Unit {0} → List A → T → Type 0
 No s found t = Unit {0}
 
-agree_scopes : (d : Data) (holders : Holders) → Agree Any (scopes_row d) (scopes_of d holders)
-unfolding scopes_row scopes_of
-agree_scopes d holders =
-    agree_bind Same Any _ _ _ _ (agree_or_default as_array (other_than kind.Array) no_items key.Scopes (value_at key.Scopes d))
-    (λ x y e. subst (λ z. Agree Any (each_element key.Scopes (λ f s. scope_row f) 0 x tt) (read.each (λ earlier. scope_of) z [] holders)) e
-    (agree_each key.Scopes (λ f s. scope_row f) (λ earlier. scope_of) No (λ n f s found t q. agree_scope n f t) 0 x tt [] holders tt))
+agree_scopes : (x y : Items) (holders : Holders) → x ≡ y → Agree Any (each_element key.Scopes (λ f s. scope_row f) 0 x tt) (scopes_of y holders)
+unfolding scopes_of
+agree_scopes x y holders e =
+    subst (λ z. Agree Any (each_element key.Scopes (λ f s. scope_row f) 0 x tt) (read.each (λ earlier. scope_of) z [] holders)) e
+    (agree_each key.Scopes (λ f s. scope_row f) (λ earlier. scope_of) No (λ n f s found t q. agree_scope n f t) 0 x tt [] holders tt)
 
 agree_source : (sources : List RecordedSource) (d : Data) → Agree Same (Refusals.source_at (length (map (λ source. source.lines) sources)) d) (required_at (read.source_place sources) key.Source d)
 agree_source sources d = agree_at (place_below (length (map (λ source. source.lines) sources))) (read.source_place sources) _ key.Source d
@@ -261,49 +260,72 @@ agree_line : (sources : List RecordedSource) (n m : ℕ) (d : Data) → n ≡ m 
 agree_line sources n m d e = agree_at (line_of (lines_at (map (λ source. source.lines) sources) n)) (line_of (read.lines_at sources m)) _ key.Line d
     (λ v. ap (λ c. line_of c v) (line_at_place sources n ∙ ap (λ k. read.lines_at sources k) e))
 
-agree_frame : (sources : List RecordedSource) (n : ℕ) (d : Data) (numbered : Numbered) → Agree Any (in_element key.Frames n d (frame_row (map (λ source. source.lines) sources) d)) (frame_of sources d numbered)
-unfolding frame_row frame_of
+-- of a recording each frame has a source
+agree_there : (a : Checked ℕ) (b : Read ℕ) → Agree Same a b → Agree (λ n m. Some n ≡ m) a (b >>= (λ n. Ok (Some n)))
+agree_there (Ok x) (Ok y) e = ap Some e
+agree_there (Ok x) (Err k) e = absurd e
+agree_there (Err place) (Ok y) e = absurd e
+agree_there (Err place) (Err k) e = e
+
+agree_line_there : (sources : List RecordedSource) (n : ℕ) (m : Option ℕ) (d : Data) → Some n ≡ m → Agree Same (Refusals.line_at (lines_at (map (λ source. source.lines) sources) n) d) (frame_line sources m d)
+agree_line_there sources n None d e = absurd (cc e)
+agree_line_there sources n (Some m) d e = agree_line sources n m d cc
+
+agree_frame : (sources : List RecordedSource) (n : ℕ) (d : Data) (numbered : Numbered) → Agree Any (in_element key.Frames n d (frame_row (map (λ source. source.lines) sources) d)) (frame_of recorder sources d numbered)
+unfolding frame_row frame_of scopes_row
 agree_frame sources n d numbered = agree_element Any key.Frames n d _ _
     (agree_bind Same Any _ _ _ _ (agree_text key.Name d)
-    (λ x y e. agree_bind Same Any _ _ _ _ (agree_source sources d)
-    (λ v w f. agree_bind Same Any _ _ _ _ (agree_line sources v w d f)
-    (λ a b g. agree_end (scopes_row d) (scopes_of d numbered.variables) _ (agree_scopes d numbered.variables)))))
+    (λ x y e. agree_bind (λ v w. Some v ≡ w) Any _ _ _ _ (agree_there _ _ (agree_source sources d))
+    (λ v w f. agree_bind Same Any _ _ _ _ (agree_line_there sources v w d f)
+    (λ a b g. agree_bind Same Any _ _ _ _ (agree_or_default as_array (other_than kind.Array) no_items key.Scopes (value_at key.Scopes d))
+    (λ ds es h. agree_end (each_element key.Scopes (λ q s. scope_row q) 0 ds tt) (scopes_of es numbered.variables) _ (agree_scopes ds es numbered.variables h))))))
 
 -- the ids of the threads so far
 abbrev HasIdsOf : {T : Type 0} → List ℤ → List RecordedThread → T → Type 0
 HasIdsOf ids threads t = ids ≡ map (λ thread. thread.id) threads
 
 agree_row_of_thread : (sources : List RecordedSource) (n : ℕ) (d : Data) (earlier : List RecordedThread) (numbered : Numbered)
-    → Agree (λ ids r. ids ≡ map (λ thread. thread.id) (earlier ++ r.0 ∷ [])) (in_element key.Threads n d (thread_row (map (λ source. source.lines) sources) d (map (λ thread. thread.id) earlier))) (thread_of sources earlier d numbered)
+    → Agree (λ ids r. ids ≡ map (λ thread. thread.id) (earlier ++ r.0 ∷ [])) (in_element key.Threads n d (thread_row (map (λ source. source.lines) sources) d (map (λ thread. thread.id) earlier))) (thread_of recorder sources earlier d numbered)
 unfolding thread_row thread_of
 agree_row_of_thread sources n d earlier numbered = agree_element _ key.Threads n d _ _
     (agree_bind Same _ _ _ _ _ (agree_id earlier d)
     (λ id id' same. agree_bind Same _ _ _ _ _ (agree_text key.Name d)
     (λ x y e. agree_bind Same _ _ _ _ _ (agree_some_items key.Frames d)
     (λ ds es f. agree_bind Any _ _ _ _ _
-    (subst (λ z. Agree Any (each_element key.Frames (λ v s. frame_row (map (λ source. source.lines) sources) v) 0 ds tt) (read.each (λ before. frame_of sources) z [] numbered)) f
-    (agree_each key.Frames (λ v s. frame_row (map (λ source. source.lines) sources) v) (λ before. frame_of sources) No (λ m v s found t q. agree_frame sources m v t) 0 ds tt [] numbered tt))
+    (subst (λ z. Agree Any (each_element key.Frames (λ v s. frame_row (map (λ source. source.lines) sources) v) 0 ds tt) (read.each (λ before. frame_of recorder sources) z [] numbered)) f
+    (agree_each key.Frames (λ v s. frame_row (map (λ source. source.lines) sources) v) (λ before. frame_of recorder sources) No (λ m v s found t q. agree_frame sources m v t) 0 ds tt [] numbered tt))
     (λ u r q. ap (λ z. map (λ thread. thread.id) earlier ++ z ∷ []) same ∙ sym (map-append (λ (thread : RecordedThread). thread.id) earlier (record { id = id'; name = y; frames = r.0 } ∷ [])))))))
 
 agree_step_of_thread : (sources : List RecordedSource) (n : ℕ) (d : Data) (ids : List ℤ) (earlier : List RecordedThread) (numbered : Numbered) → ids ≡ map (λ thread. thread.id) earlier
-    → Agree (λ more r. more ≡ map (λ thread. thread.id) (earlier ++ r.0 ∷ [])) (in_element key.Threads n d (thread_row (map (λ source. source.lines) sources) d ids)) (thread_of sources earlier d numbered)
+    → Agree (λ more r. more ≡ map (λ thread. thread.id) (earlier ++ r.0 ∷ [])) (in_element key.Threads n d (thread_row (map (λ source. source.lines) sources) d ids)) (thread_of recorder sources earlier d numbered)
 agree_step_of_thread sources n d ids earlier numbered e =
-    subst (λ z. Agree (λ more r. more ≡ map (λ thread. thread.id) (earlier ++ r.0 ∷ [])) (in_element key.Threads n d (thread_row (map (λ source. source.lines) sources) d z)) (thread_of sources earlier d numbered)) (sym e)
+    subst (λ z. Agree (λ more r. more ≡ map (λ thread. thread.id) (earlier ++ r.0 ∷ [])) (in_element key.Threads n d (thread_row (map (λ source. source.lines) sources) d z)) (thread_of recorder sources earlier d numbered)) (sym e)
     (agree_row_of_thread sources n d earlier numbered)
 
 -- ---- the whole
 
-agree_moment : (sources : List RecordedSource) (n : ℕ) (d : Data) (numbered : Numbered) → Agree Any (in_element key.Moments n d (moment_row (map (λ source. source.lines) sources) d)) (moment_of sources d numbered)
+agree_short : (most : ℕ) (k : RecordingKey) (d : Data) → Agree Any (Refusals.short_text_if_any most k d) (read.optional_at (short_text most) k d)
+agree_short most k d = agree_optional (short_text most) (λ v. text_cause most v (as_str v)) [] k (value_at k d)
+
+agree_stop : (d : Data) → Agree Any (own_stop_row d) (stop_of d)
+unfolding stop_of
+agree_stop d =
+    agree_bind Any Any _ _ _ _ (agree_short 64 key.Stop d)
+    (λ x y e. agree_bind Any Any _ _ _ _ (agree_short 128 key.Description d)
+    (λ v w f. agree_bind Any Any _ _ _ _ (agree_short 128 key.Text d)
+    (λ a b g. tt)))
+
+agree_moment : (sources : List RecordedSource) (n : ℕ) (d : Data) (numbered : Numbered) → Agree Any (in_element key.Moments n d (moment_row (map (λ source. source.lines) sources) d)) (moment_of recorder sources d numbered)
 unfolding moment_row moment_of
 agree_moment sources n d numbered = agree_element Any key.Moments n d _ _
     (agree_bind Same Any _ _ _ _ (agree_items key.Threads d)
     (λ ds es e. agree_bind (λ ids r. ids ≡ map (λ thread. thread.id) r.0) Any _ _ _ _
-    (subst (λ z. Agree (λ ids r. ids ≡ map (λ thread. thread.id) r.0) (each_element key.Threads (thread_row (map (λ source. source.lines) sources)) 0 ds []) (read.each (thread_of sources) z [] numbered)) e
-    (agree_each key.Threads (thread_row (map (λ source. source.lines) sources)) (thread_of sources) HasIdsOf (λ m v ids earlier t q. agree_step_of_thread sources m v ids earlier t q) 0 ds [] [] numbered refl))
+    (subst (λ z. Agree (λ ids r. ids ≡ map (λ thread. thread.id) r.0) (each_element key.Threads (thread_row (map (λ source. source.lines) sources)) 0 ds []) (read.each (thread_of recorder sources) z [] numbered)) e
+    (agree_each key.Threads (thread_row (map (λ source. source.lines) sources)) (thread_of recorder sources) HasIdsOf (λ m v ids earlier t q. agree_step_of_thread sources m v ids earlier t q) 0 ds [] [] numbered refl))
     (λ ids r same. agree_bind Any Any _ _ _ _ (subst (λ z. Agree Any (Refusals.thread_at z d) (required_at (read.thread_place r.0) key.Thread d)) (sym same) (agree_thread r.0 d))
     (λ id place p. agree_bind Same Any _ _ _ _ (agree_or_default as_str (other_than kind.Text) [] key.Output (value_at key.Output d))
     (λ x y f. agree_bind Same Any _ _ _ _ (agree_or_default as_bool (other_than kind.Boolean) false key.Waits (value_at key.Waits d))
-    (λ v w g. tt))))))
+    (λ v w g. agree_end (own_stop_row d) (stop_of d) _ (agree_stop d)))))))
 
 agree_row_of_source : (d : Data) (lines : List ℕ) (sources : List RecordedSource) → lines ≡ map (λ source. source.lines) sources
     → Agree (λ more source. more ≡ map (λ source. source.lines) (sources ++ source ∷ [])) (source_row d lines) (required_at as_str key.Name d >>= (λ name. read.optional_at as_str key.Path d >>= (λ path. required_at as_str key.Text d >>= (λ text. read.optional_or as_bool false key.OnDisk d >>= (λ on_disk. Ok (record { name = name; path = path; text = text; on_disk = on_disk; lines = line_count text }))))))
@@ -331,10 +353,7 @@ agree_sources n (item d ds) lines sources e =
 agree_moments : (sources : List RecordedSource) (ds : Items) (numbered : Numbered) → Agree Any (each_element key.Moments (λ v s. moment_row (map (λ source. source.lines) sources) v) 0 ds tt) (moments_of sources ds numbered)
 unfolding moments_of
 agree_moments sources ds numbered =
-    agree_each key.Moments (λ v s. moment_row (map (λ source. source.lines) sources) v) (λ earlier. moment_of sources) No (λ m v s found t q. agree_moment sources m v t) 0 ds tt [] numbered tt
-
-abbrev none_numbered : Numbered
-none_numbered = record { scopes = []; variables = [] }
+    agree_each key.Moments (λ v s. moment_row (map (λ source. source.lines) sources) v) (λ earlier. moment_of recorder sources) No (λ m v s found t q. agree_moment sources m v t) 0 ds tt [] numbered tt
 
 agree_recording : (d : Data) → Agree Any (recording_row d) (recording_of d)
 unfolding recording_row recording_of

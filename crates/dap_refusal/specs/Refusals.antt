@@ -14,7 +14,7 @@ use Rattle.serde_json.specs.declared.value.Value.{Value}
 use Rattle.dap_json.specs.Steps.{◌>>=◌, ◌>>◌, Returns}
 use Rattle.dap_json.specs.Field.{if_passes, is_object}
 use Rattle.dap_command.specs.Numbers.{int_of, number_of}
-use Rattle.dap_recording.specs.Reading.{value_at, exit_of, line_of, verdict_of}
+use Rattle.dap_recording.specs.Reading.{value_at, exit_of, short_text, line_of, verdict_of}
 use Rattle.dap_recording.specs.Recording.{line_count}
 use Rattle.dap_recording.specs.RecordingKey.{name_of}
 use Rattle.dap_recording.specs.declared.reading.RecordingKey.{RecordingKey}
@@ -23,7 +23,7 @@ use Rattle.dap_recording.specs.declared.reading.RecordingFault.{RecordingFault}
 use Rattle.dap_recording.specs.declared.reading.RecordingFault.TheVariants.{NotJson, NotObject, BadKey}
 use Rattle.dap_recording.specs.declared.recording.Recording.{Recording}
 use Rattle.dap_refusal.specs.declared.refusal.BadCause.{BadCause}
-use Rattle.dap_refusal.specs.declared.refusal.BadCause.TheVariants.{Absent, OtherKind, NoElements, TooMany, OutOfRange, NoSource, PastLines, DuplicateId, NoThread}
+use Rattle.dap_refusal.specs.declared.refusal.BadCause.TheVariants.{Absent, OtherKind, NoElements, TooMany, TooLong, OutOfRange, NoSource, PastLines, DuplicateId, NoThread}
 use Rattle.dap_refusal.specs.declared.refusal.BadPlace.{BadPlace}
 use Rattle.dap_refusal.specs.declared.refusal.JsonKind.{JsonKind}
 use Rattle.dap_refusal.specs.declared.refusal.JsonKind.TheVariants as kind
@@ -82,6 +82,11 @@ no_exit d = no_number (negsuc 2147483647) max_number d
 abbrev pub no_id : Data → BadCause
 no_id d = no_number min_id max_id d
 
+-- where it has at most so many bytes
+abbrev pub text_cause : ℕ → Data → Option (List ℕ) → BadCause
+text_cause most d None = other_than kind.Text d
+text_cause most d (Some text) = TooLong (length text) most
+
 -- of so many sources
 abbrev pub source_cause : ℕ → Data → Option ℕ → BadCause
 source_cause count d None = no_number (pos 0) max_number d
@@ -128,6 +133,10 @@ text_at k d = due_at as_str (other_than kind.Text) k d
 
 abbrev pub text_if_any : RecordingKey → Data → Checked (List ℕ)
 text_if_any k d = any_at as_str (other_than kind.Text) [] k d
+
+-- of at most so many bytes
+abbrev pub short_text_if_any : ℕ → RecordingKey → Data → Checked (List ℕ)
+short_text_if_any most k d = any_at (short_text most) (λ v. text_cause most v (as_str v)) [] k d
 
 abbrev pub flag_if_any : RecordingKey → Data → Checked Bool
 flag_if_any k d = any_at as_bool (other_than kind.Boolean) false k d
@@ -264,6 +273,14 @@ thread_row lines d ids = do
 
 -- ---- the whole
 
+-- a stop of the moment's own
+abbrev pub own_stop_row : Data → Checked (Unit {0})
+own_stop_row d = do
+  reason ← short_text_if_any 64 key.Stop d
+  description ← short_text_if_any 128 key.Description d
+  text ← short_text_if_any 128 key.Text d
+  Ok tt
+
 unfoldable pub moment_row : List ℕ → Data → Checked (Unit {0})
 moment_row lines d = do
   threads ← items_at key.Threads d
@@ -271,7 +288,7 @@ moment_row lines d = do
   thread ← thread_at ids d
   output ← text_if_any key.Output d
   waits ← flag_if_any key.Waits d
-  Ok tt
+  own_stop_row d
 
 -- the lines of the sources so far, with those of one more
 unfoldable pub source_row : Data → List ℕ → Checked (List ℕ)

@@ -51,6 +51,11 @@ pub enum BadCause {
         least: i64,
         greatest: i64,
     },
+    /// A text has so many bytes, more than it may have.
+    TooLong {
+        bytes: u64,
+        most: u64,
+    },
     /// A source of a frame is not below the count of sources.
     NoSource {
         source: u32,

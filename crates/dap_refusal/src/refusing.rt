@@ -5,7 +5,7 @@ ghost use Rattle.serde_json.specs.Data.{no_items};
 ghost use Rattle.serde_json.specs.Find.{as_str, as_bool, as_array};
 ghost use Rattle.serde_json.specs.View.{view, items_view};
 ghost use Rattle.dap_recording.specs.Reading.{value_at, exit_of, line_of};
-ghost use Rattle.dap_refusal.specs.Refusals.{here as here_of, element_here, within as within_of, kind_of as kind_of_data, other_than, no_number as no_number_of, no_exit, no_id as no_id_of, source_cause, line_cause, id_cause, thread_cause, or_here, due_in, due_at, any_at, text_at, text_if_any as text_if_any_of, flag_if_any as flag_if_any_of, items_at, items_if_any as items_if_any_of, some_items_at, few_items_at, exit_at, source_at, line_at, has_id as has_id_of, id_at, thread_at, in_element, each_element, variables_in, variables_if_any as variables_if_any_of, variable_row as variable_row_of, scope_row as scope_row_of, scopes_row as scopes_row_of, lines_at as lines_at_of, frame_row as frame_row_of, thread_row as thread_row_of, moment_row as moment_row_of, source_row as source_row_of, recording_row as recording_row_of, refusal_of as refusal_of_data, Finds, FindsAll, FindsText, FindsItems, StopsWithin, bad_key_in};
+ghost use Rattle.dap_refusal.specs.Refusals.{here as here_of, element_here, within as within_of, kind_of as kind_of_data, other_than, no_number as no_number_of, no_exit, no_id as no_id_of, source_cause, line_cause, id_cause, thread_cause, or_here, due_in, due_at, any_at, text_at, text_if_any as text_if_any_of, text_cause, short_text_if_any as short_text_if_any_of, flag_if_any as flag_if_any_of, items_at, items_if_any as items_if_any_of, some_items_at, few_items_at, exit_at, source_at, line_at, has_id as has_id_of, id_at, thread_at, in_element, each_element, variables_in, variables_if_any as variables_if_any_of, variable_row as variable_row_of, scope_row as scope_row_of, scopes_row as scopes_row_of, lines_at as lines_at_of, frame_row as frame_row_of, thread_row as thread_row_of, own_stop_row, moment_row as moment_row_of, source_row as source_row_of, recording_row as recording_row_of, refusal_of as refusal_of_data, Finds, FindsAll, FindsText, FindsItems, StopsWithin, bad_key_in};
 ghost use Rattle.dap_command.specs.Numbers.{int_of, number_of};
 ghost use Rattle.dap_recording.specs.declared.reading.RecordingKey.TheVariants as key;
 ghost use Rattle.dap_refusal.specs.declared.refusal.JsonKind.TheVariants as kind;
@@ -161,6 +161,37 @@ fn text_if_any(alloc: Global, value: &Value, key: RecordingKey) -> Result<&str, 
     match found.as_str() {
         Some(text) => Ok(text),
         None => Err(here(alloc, key, other(found, JsonKind::Text))),
+    }
+}
+
+/// Why a value is no text of at most so many bytes.
+fn no_short_text(value: &Value, most: usize) -> BadCause
+    ensures { result ≡ text_cause most (view value.now) (as_str (view value.now)) }
+{
+    match value.as_str() {
+        Some(text) => BadCause::TooLong {
+            bytes: text.len() as u64,
+            most: most as u64,
+        },
+        None => other(value, JsonKind::Text),
+    }
+}
+
+/// A text of at most so many bytes, if there is one.
+fn short_text_if_any(
+    alloc: Global,
+    value: &Value,
+    most: usize,
+    key: RecordingKey,
+) -> Result<&str, Stop>
+    ensures { FindsText result (short_text_if_any_of most key (view value.now)) }
+{
+    let Some(found) = value.get(key.name()) else {
+        return Ok("");
+    };
+    match found.as_str() {
+        Some(text) if text.len() <= most => Ok(text),
+        _ => Err(here(alloc, key, no_short_text(found, most))),
     }
 }
 
@@ -484,6 +515,16 @@ fn each_thread(alloc: Global, lines: &[u64], items: &[Value]) -> Result<Vec<i64>
 
 // ---- the whole
 
+/// The keys for a stop of a moment's own.
+fn own_stop(alloc: Global, value: &Value) -> Result<(), Stop>
+    ensures { Finds result (own_stop_row (view value.now)) }
+{
+    short_text_if_any(alloc, value, numbers::MAX_REASON, RecordingKey::Stop)?;
+    short_text_if_any(alloc, value, numbers::MAX_WORDS, RecordingKey::Description)?;
+    short_text_if_any(alloc, value, numbers::MAX_WORDS, RecordingKey::Text)?;
+    Ok(())
+}
+
 #[tactic(auto, unfolding(crate::specs::Refusals::moment_row))]
 fn moment(alloc: Global, lines: &[u64], value: &Value) -> Result<(), Stop>
     ensures { Finds result (moment_row_of lines.now (view value.now)) }
@@ -493,7 +534,7 @@ fn moment(alloc: Global, lines: &[u64], value: &Value) -> Result<(), Stop>
     thread_id(alloc, value, &ids)?;
     text_if_any(alloc, value, RecordingKey::Output)?;
     flag_if_any(alloc, value, RecordingKey::Waits)?;
-    Ok(())
+    own_stop(alloc, value)
 }
 
 fn each_moment(alloc: Global, lines: &[u64], items: &[Value]) -> Result<(), Stop>
