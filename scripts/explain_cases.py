@@ -222,6 +222,16 @@ def lines():
         ("check: BadLine", ["check", b">{}"], "BadLine at line 1", b">{}"),
     ]:
         explained([(name, words, told, f"FILE: {told.partition(' at ')[2]}: {excerpt(text)}")])
+    begins = " begins a frame: dap show lists a stream of them, and "
+    begins += "scripts/transcripts streams UP DOWN makes a transcript of both directions"
+    for name, text, line, shown, more in [
+        ("a stream", FIRST, 1, FIRST.partition(b"\r\n")[0], begins),
+        ("a stream behind an empty line", b"\n" + FIRST, 2, FIRST.partition(b"\r\n")[0], begins),
+        ("a field without its colon", b"Content-Length 12\r\n\r\n", 1, b"Content-Length 12", ""),
+        ("a field that is not at the front", b" Content-Length: 12", 1, b" Content-Length: 12", ""),
+    ]:
+        why = f"FILE: line {line}: {excerpt(shown)}{more}"
+        explained([(f"check: {name}", ["check", text], f"BadLine at line {line}", why)])
 
 
 # A script up to a stop, and what is refused behind it: the words, the fault, the line that is shown, and why.

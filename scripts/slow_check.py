@@ -33,7 +33,7 @@ import json
 import re
 import sys
 
-from commands import ENDING, GATES, GIVEN, LEAST, RESUMING, USED
+from commands import COMMANDS, ENDING, GATES, GIVEN, LEAST, RESUMING, USED
 from shape_table import read_table
 
 MAX_FILE = 67108864
@@ -451,6 +451,32 @@ def count_of(number):
     return {0: "legal", 1: "1 finding"}.get(number, f"{number} findings")
 
 
+def own_numbers(said, any_seq=None):
+    """The hint at sides that number their messages in a way of their own: of two or more, no message has the number that is
+    due where it is."""
+    own = []
+    for side, name in ((CLIENT, "client"), (ADAPTER, "adapter")):
+        places = [place for place, message in enumerate(said) if message.side == side]
+        if side not in FREE[any_seq] and len(places) >= 2 and all(rule_1(said, place) for place in places):
+            own.append(name)
+    if len(own) == 2:
+        yield "each message breaks rule 1: --any-seq leaves the numbers of both sides untested"
+    for name in own if len(own) == 1 else []:
+        yield f"each message of the {name} breaks rule 1: --any-seq={name} leaves its numbers untested"
+
+
+# The commands of the published protocol that are none of this profile.
+OTHER_COMMANDS = """dataBreakpointInfo disassemble goto gotoTargets readMemory restartFrame setDataBreakpoints setExpression
+setInstructionBreakpoints stepInTargets terminateThreads writeMemory""".split()
+
+
+def words_of_command(command):
+    """What is said of the command of a request that nothing has answered."""
+    if command in COMMANDS or command == "runInTerminal":
+        return []
+    return ["known to the protocol, not in this profile" if command in OTHER_COMMANDS else "unknown to the protocol"]
+
+
 def lines_of_check(said, any_seq=None, explain=False, every=False, unanswered_too=False, bodies=False):
     """What is printed of a transcript. Why a rule is broken is said in other words than those of `dap check`, but for rule 8."""
     found = findings(said, any_seq, bodies)
@@ -461,8 +487,11 @@ def lines_of_check(said, any_seq=None, explain=False, every=False, unanswered_to
             yield broken.way
     if every or not found:
         yield count_of(len(found))
+    if explain:
+        yield from own_numbers(said, any_seq)
     for message in unanswered(said) if unanswered_too else []:
         yield f"line {message.line} request {message.seq} {shown(message.command)} is not answered"
+        yield from words_of_command(message.command) if explain else []
 
 
 def check(content, any_seq=None, explain=False, all=False, open=False, bodies=False):

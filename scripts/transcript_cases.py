@@ -100,13 +100,15 @@ def rules_of_references():
 def transcripts():
     if not is_known("check"):
         return
-    for rows in (rules, lines, explained, every_finding, shapes, shapes_among_rules, bodies, files, examples):
+    groups = rules, lines, explained, every_finding, commands_not_served, shapes, shapes_among_rules, bodies, files, examples
+    for rows in groups:
         try_rows(rows())
     for word in ("--any-seq=x", "--any-seq=", "--all=x", "--open=x", "--any-seq=adapter,client"):
         try_refusal(f"usage of check {word}", ["check", text_of("$ask"), word], b"error: ")
     try_usage([(["check"], b"<FILE>"), (["check", "x", "y"], b"unexpected argument 'y'")])
     expect_in("usage of check --bodies=x", check(b"", "--bodies=x")[2], b"error: ")
     # The definition of rule 8 and the code's rows are what is printed of one table.
+    many_findings()
     expect("scripts/shapes compare", output_of([SHAPES, "compare"]), fine())
 
 
@@ -173,6 +175,44 @@ def every_finding():
         refused(f"no message: {words}", text_of("$twice") + b"\nx", "BadLine at line 6", *words.split())
     for word in ("--any-seq=both", "--any-seq=adapter", "--any-seq=client"):
         yield f"check: {word} before the file", ["check", word, text_of("$ask")], LEGAL
+
+
+def commands_not_served():
+    """Of each command of the protocol that is none of this profile, and of each of it, what is said where it waits."""
+    others = "dataBreakpointInfo disassemble goto gotoTargets readMemory restartFrame setDataBreakpoints setExpression"
+    others += " setInstructionBreakpoints stepInTargets terminateThreads writeMemory"
+    for command in [*others.split(), *sorted(set(COMMANDS) - set(GATES) - {"initialize"})]:
+        said = b"known to the protocol, not in this profile\n" if command in others.split() else b""
+        out = b"legal\nline 3 request 2 %s is not answered\n" % command.encode() + said
+        yield checked(f"`{command}` waits", f"$open >{command}", fine(out), "--open", "--explain")
+
+
+def many_findings():
+    """A transcript in which 100000 lines break a rule is explained in one pass. Where the lines before each were read again,
+    an hour would not be enough."""
+    count = 100000
+    numbers = "seq 1 was due, in the first message of its side", "seq {} was due, after the message of line {}"
+    own = "each message of the adapter breaks rule 1: --any-seq=adapter leaves its numbers untested\n"
+    early = "the first request of the client is not initialize"
+    again = early, "request 7 again, while request 7 of line {1} has no response"
+    never = early, "frameId 3, which no response has given"
+    event = '< {"seq":0,"type":"event","event":"output","body":{"output":"a"}}\n'
+    request = '> {"seq":%d,"type":"request","command":"%s","arguments":{"frameId":3}}\n'
+    answer = '< {"seq":%d,"type":"response","request_seq":%d,"success":false,"command":"scopes"}\n'
+    asked = "".join(request % (n, "scopes") + answer % (n, n) for n in range(1, count + 1))
+    for name, text, rule, first, other, step, hint, words in [
+        ("each seq is 0", event * count, 1, *numbers, 1, own, []),
+        ("each seq is 0, with bodies", event * count, 1, *numbers, 1, own, ["--bodies"]),
+        ("each seq is that of a request that waits", request % (7, "x") * count, 2, *again, 1, "", ["--any-seq"]),
+        ("each frame is none", asked, 6, *never, 2, "", []),
+    ]:
+        told = f"line 1 rule {3 if rule > 1 else 1}\n{first}\n"
+        for n in range(1, count):
+            told += f"line {step * n + 1} rule {rule}\n{other.format(n + 1, step * (n - 1) + 1)}\n"
+        wanted = 3, f"{told}{count} findings\n{hint}".encode(), b""
+        got = run(["check", text.encode(), "--all", "--explain", *words], timeout=20)
+        # The texts are too long to be told where they differ.
+        expect(f"check: {count} findings: {name}", got == wanted, True)
 
 
 def shapes():

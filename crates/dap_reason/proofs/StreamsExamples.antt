@@ -26,3 +26,16 @@ refused_line = refl
 of_neither_side : words_of_check (codes "= {}") (check.BadLine 1) ≡ codes "line 1: \"= {}\""
 unfolding digits
 of_neither_side = refl
+
+of_a_frame : words_of_check (codes "Content-Length: 2\r\n\r\n{}") (check.BadLine 1)
+    ≡ codes "line 1: \"Content-Length: 2\" begins a frame: dap show lists a stream of them, and scripts/transcripts streams UP DOWN makes a transcript of both directions"
+unfolding digits
+of_a_frame = refl
+
+no_field : words_of_check (codes "Content-Length 2") (check.BadLine 1) ≡ codes "line 1: \"Content-Length 2\""
+unfolding digits
+no_field = refl
+
+later_in_a_line : words_of_check (codes "x Content-Length: 2") (check.BadLine 1) ≡ codes "line 1: \"x Content-Length: 2\""
+unfolding digits
+later_in_a_line = refl

@@ -1,12 +1,13 @@
 -- Why a stream, a file of messages or a transcript is refused, in words. They are this profile's choice.
-use Rattle.std.specs.Prelude.{ℕ, List, codes}
+use Rattle.std.specs.Prelude.{ℕ, nat_eq, List, [], ◌++◌, Bool, codes, if◌then◌else◌}
+use Rattle.std.specs.List.{starts_with}
 use Rattle.dap_check.specs.declared.checking.CheckFault.{CheckFault}
 use Rattle.dap_check.specs.declared.checking.CheckFault.TheVariants as check
 use Rattle.dap_frame.specs.declared.Refusal.{Refusal}
 use Rattle.dap_frame.specs.declared.Refusal.TheVariants.{HeaderTooLong, BadHeader, NoLength, TwoLengths, BadLength, BodyTooLong}
 use Rattle.dap_envelope.specs.declared.fault.BodyRefusal.{BodyRefusal}
 use Rattle.dap_envelope.specs.declared.fault.BodyRefusal.TheVariants.{NotJson, NotObject, BadSeq, BadType, BadCommand, BadRequestSeq, BadSuccess, BadEvent, BadMessage}
-use Rattle.dap_reason.specs.Excerpts.{excerpt, header_at, bytes_at, words_at, words_at_line}
+use Rattle.dap_reason.specs.Excerpts.{excerpt, header_at, bytes_at, text_of_line, words_at, words_at_line}
 use Rattle.dap_reason.specs.Recordings.{no_memory}
 use Rattle.dap_stream.specs.declared.listing.ShowFault.{ShowFault}
 use Rattle.dap_stream.specs.declared.listing.ShowFault.TheVariants as show
@@ -48,7 +49,17 @@ words_of_wrap bytes (wrap.Body cause line) = words_at_line bytes line
 words_of_wrap bytes (wrap.BodyTooLong line) = words_at_line bytes line
 words_of_wrap bytes wrap.OutOfMemory = no_memory
 
+-- a line that begins a frame, in a file that is a stream and no transcript
+abbrev pub is_of_frame : List ℕ → Bool
+is_of_frame text = starts_with nat_eq text (codes "Content-Length:")
+
+abbrev pub words_of_stream : List ℕ
+words_of_stream = codes " begins a frame: dap show lists a stream of them, and scripts/transcripts streams UP DOWN makes a transcript of both directions"
+
+abbrev pub words_of_bad_line : List ℕ → ℕ → List ℕ
+words_of_bad_line bytes line = words_at_line bytes line ++ (if is_of_frame (text_of_line line bytes) then words_of_stream else [])
+
 abbrev pub words_of_check : List ℕ → CheckFault → List ℕ
-words_of_check bytes (check.BadLine line) = words_at_line bytes line
+words_of_check bytes (check.BadLine line) = words_of_bad_line bytes line
 words_of_check bytes (check.Body line cause) = words_at_line bytes line
 words_of_check bytes check.OutOfMemory = no_memory

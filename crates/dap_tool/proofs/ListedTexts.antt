@@ -21,6 +21,7 @@ use Rattle.dap_tool.specs.Verdicts.{texts_of_body, text_if, texts_after, texts_o
 use Rattle.dap_tool.proofs.VerdictTexts.{none_found, legal_none}
 use Rattle.dap_explain.specs.Sentences.{joined_text}
 use Rattle.dap_tool.specs.PrivateListed.{rule_at, left_after, IsListed}
+use Rattle.dap_tool.specs.Hints.{hint_if}
 use Rattle.dap_tool.specs.declared.verdict.CheckOptions.{CheckOptions}
 use Rattle.dap_tool.specs.declared.bodies.Listing.{Listing}
 
@@ -257,13 +258,15 @@ no_items [] none = refl
 no_items (finding ∷ later) none = absurd (omega arith)
 
 module _ (options : CheckOptions) (transcript : List Line) (listing : Listing) (so : IsListed options transcript [] listing) (with_bodies : options.bodies ≡ true) where
-  pub closing_so : (requests : List OpenRequest) (text : List ℕ) → text ≡ (listing.text.items ++ closing_text options.all listing.count) ++ open_text options.unanswered requests → requests ≡ open_requests transcript → text ≡ text_of_verdict options transcript
+  pub closing_so : (requests : List OpenRequest) (text : List ℕ) → text ≡ ((listing.text.items ++ closing_text options.all listing.count) ++ hint_if options.explained options.any_seq transcript) ++ open_text options.unanswered options.explained requests
+      → requests ≡ open_requests transcript → text ≡ text_of_verdict options transcript
   closing_so requests text e open_is =
       let texts = texts_of options.any_seq options.explained true transcript in
+      let hint = hint_if options.explained options.any_seq transcript in
       e
-      ∙ ap (λ z. (z ++ closing_text options.all listing.count) ++ open_text options.unanswered requests) so.text
-      ∙ ap (λ n. (joined_text (if options.all then texts else take 1 texts) ++ closing_text options.all n) ++ open_text options.unanswered requests) so.count
-      ∙ ap (λ z. findings_text options.all texts ++ open_text options.unanswered z) open_is
+      ∙ ap (λ z. ((z ++ closing_text options.all listing.count) ++ hint) ++ open_text options.unanswered options.explained requests) so.text
+      ∙ ap (λ n. ((joined_text (if options.all then texts else take 1 texts) ++ closing_text options.all n) ++ hint) ++ open_text options.unanswered options.explained requests) so.count
+      ∙ ap (λ z. (findings_text options.all texts ++ hint) ++ open_text options.unanswered options.explained z) open_is
       ∙ ap (λ b. printed_text options (texts_of options.any_seq options.explained b transcript) transcript) (sym with_bodies)
 
   pub legal_listed : FindingsAreBrokenRules → FirstFindingIsTheVerdict → ((listing.count == 0) ≡ true) ↔ (IsLegal options.any_seq transcript × ((options.bodies && has_fault transcript) ≡ false))

@@ -21,6 +21,7 @@ use Rattle.dap_check.specs.declared.rule.OpenRequest.{OpenRequest}
 use Rattle.dap_check.specs.declared.rule.Rule.{Rule}
 use Rattle.dap_explain.specs.Sentences.{joined_text}
 use Rattle.dap_tool.specs.Verdicts.{text_at, text_if, texts_after, texts_of, closing_text, findings_text, open_text, printed_text}
+use Rattle.dap_tool.specs.Hints.{hint_if}
 use Rattle.dap_tool.specs.declared.verdict.CheckOptions.{CheckOptions}
 
 module _ (any_seq : AnySeq) (explained : Bool) where
@@ -189,20 +190,23 @@ first_texts false [] [] e = refl
 first_texts false [] (y ∷ texts) e = absurd (omega (arith, e))
 first_texts false (x ∷ found) texts e = refl
 
-pub verdict_so : (options : CheckOptions) (transcript : List Line) (first : List Finding) (count : ℕ) (requests : List OpenRequest) (text0 text1 text2 text3 : List ℕ)
+pub verdict_so : (options : CheckOptions) (transcript : List Line) (first : List Finding) (count : ℕ) (requests : List OpenRequest) (text0 text1 text2 text3 text4 : List ℕ)
     → text0 ≡ [] → first ≡ cond options.all (findings options.any_seq transcript) (take 1 (findings options.any_seq transcript))
     → text1 ≡ text0 ++ joined_text (take (length first) (texts_of options.any_seq options.explained false transcript))
     → count ≡ length (findings options.any_seq transcript) → text2 ≡ text1 ++ closing_text options.all count
-    → requests ≡ open_requests transcript → text3 ≡ text2 ++ open_text options.unanswered requests → text3 ≡ printed_text options (texts_of options.any_seq options.explained false transcript) transcript
-verdict_so options transcript first count requests text0 text1 text2 text3 e0 ef e1 en e2 er e3 =
+    → text3 ≡ text2 ++ hint_if options.explained options.any_seq transcript
+    → requests ≡ open_requests transcript → text4 ≡ text3 ++ open_text options.unanswered options.explained requests → text4 ≡ printed_text options (texts_of options.any_seq options.explained false transcript) transcript
+verdict_so options transcript first count requests text0 text1 text2 text3 text4 e0 ef e1 en e2 eh er e3 =
     let texts = texts_of options.any_seq options.explained false transcript in
     let same : length texts ≡ length (findings options.any_seq transcript) = as_many options.any_seq options.explained [] transcript in
     let shown : take (length first) texts ≡ cond options.all texts (take 1 texts) = ap (λ z. take (length z) texts) ef ∙ first_texts options.all (findings options.any_seq transcript) texts same in
     let start : text1 ≡ joined_text (cond options.all texts (take 1 texts)) = e1 ∙ ap (λ z. z ++ joined_text (take (length first) texts)) e0 ∙ ap joined_text shown in
+    let hint = hint_if options.explained options.any_seq transcript in
+    let hinted : text3 ≡ (joined_text (cond options.all texts (take 1 texts)) ++ closing_text options.all count) ++ hint = eh ∙ ap (λ z. z ++ hint) (e2 ∙ ap (λ z. z ++ closing_text options.all count) start) in
     e3
-    ∙ ap (λ z. z ++ open_text options.unanswered requests) (e2 ∙ ap (λ z. z ++ closing_text options.all count) start)
-    ∙ ap (λ n. (joined_text (cond options.all texts (take 1 texts)) ++ closing_text options.all n) ++ open_text options.unanswered requests) (en ∙ sym same)
-    ∙ ap (λ z. findings_text options.all texts ++ open_text options.unanswered z) er
+    ∙ ap (λ z. z ++ open_text options.unanswered options.explained requests) hinted
+    ∙ ap (λ n. ((joined_text (cond options.all texts (take 1 texts)) ++ closing_text options.all n) ++ hint) ++ open_text options.unanswered options.explained requests) (en ∙ sym same)
+    ∙ ap (λ z. (findings_text options.all texts ++ hint) ++ open_text options.unanswered options.explained z) er
 
 -- ---- a transcript is legal where nothing is found
 

@@ -17,6 +17,8 @@ use Rattle.dap_shape.specs.Shapes.{Fault}
 use Rattle.dap_shape.specs.Faults.{fault_in}
 use Rattle.dap_shape.specs.Sentences.{sentence_of as sentence_of_fault}
 use Rattle.dap_stream.specs.Lines.{shown_text}
+use Rattle.dap_tool.specs.Commands.{words_of_command}
+use Rattle.dap_tool.specs.Hints.{hint_if}
 use Rattle.dap_tool.specs.declared.verdict.CheckOptions.{CheckOptions}
 use Rattle.dap_tool.specs.declared.verdict.VerdictText.{VerdictText}
 
@@ -78,17 +80,21 @@ findings_text all texts = joined_text (if all then texts else take 1 texts) ++ c
 
 -- ---- requests that nothing has answered
 
-abbrev pub text_of_open : OpenRequest → List ℕ
-text_of_open request = codes "line " ++ decimal request.line ++ codes " request " ++ decimal request.seq ++ codes " " ++ shown_text request.command ++ codes " is not answered\n"
+abbrev pub text_of_request : OpenRequest → List ℕ
+text_of_request request = codes "line " ++ decimal request.line ++ codes " request " ++ decimal request.seq ++ codes " " ++ shown_text request.command ++ codes " is not answered\n"
 
-abbrev pub open_text : Bool → List OpenRequest → List ℕ
-open_text unanswered requests = if unanswered then flat_map text_of_open requests else []
+-- with what is said of its command, where it is to be explained
+abbrev pub text_of_open : Bool → OpenRequest → List ℕ
+text_of_open explained request = text_of_request request ++ (if explained then words_of_command request.command else [])
+
+abbrev pub open_text : Bool → Bool → List OpenRequest → List ℕ
+open_text unanswered explained requests = if unanswered then flat_map (text_of_open explained) requests else []
 
 -- ---- of a transcript
 
 -- by the texts of the lines that break a rule
 abbrev pub printed_text : CheckOptions → List (List ℕ) → List Line → List ℕ
-printed_text options texts lines = findings_text options.all texts ++ open_text options.unanswered (open_requests lines)
+printed_text options texts lines = (findings_text options.all texts ++ hint_if options.explained options.any_seq lines) ++ open_text options.unanswered options.explained (open_requests lines)
 
 abbrev pub text_of_verdict : CheckOptions → List Line → List ℕ
 text_of_verdict options lines = printed_text options (texts_of options.any_seq options.explained options.bodies lines) lines

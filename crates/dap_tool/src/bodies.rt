@@ -15,6 +15,7 @@ ghost use Rattle.dap_tool.specs.PrivateListed.{rule_at, left_after, IsListed};
 use crate::verdict::{CheckOptions, push_finding};
 use dap_check::{CheckFault, Finding, Rule, split_line};
 use dap_envelope::{BodyFault, Kind, read_message_with};
+use dap_explain::Explainer;
 use dap_json::object_reader::Scratch;
 use dap_shape::{ShapeFault, message_fault, sentence};
 use std::alloc::{AllocError, Global};
@@ -123,15 +124,16 @@ fn text_unless_sound(
 
 fn text_of_finding(
     alloc: Global,
-    bytes: &[u8],
+    explainer: &mut Explainer<'_>,
     explained: bool,
     finding: Finding,
 ) -> Result<Option<Vec<u8>>, CheckFault>
-    ensures { (earlier : List TheLine) (line : TheLine) (later : List TheLine) → AreLines 1 (lines bytes.now) (earlier ++ line ∷ later) → line.number ≡ finding.line
+    ensures text { (earlier : List TheLine) (line : TheLine) (later : List TheLine) → AreLines 1 (lines explainer.old) (earlier ++ line ∷ later) → line.number ≡ finding.line
         → MatchResult result (λ told. option_to_list (option_map (λ text. text.items) told) ≡ text_if explained true earlier line (Some finding.rule)) (λ fault. fault ≡ CheckFault.OutOfMemory) }
+    ensures same { explainer.new ≡ explainer.old }
 {
     let mut text = Vec::new(alloc);
-    push_finding(alloc, &mut text, bytes, explained, finding)?;
+    push_finding(alloc, &mut text, explainer, explained, finding)?;
     Ok(Some(text))
 }
 
@@ -140,20 +142,21 @@ fn text_of_finding(
 fn text_of_line(
     alloc: Global,
     scratch: &mut Scratch,
-    bytes: &[u8],
+    explainer: &mut Explainer<'_>,
     explained: bool,
     number: u64,
     text: &[u8],
     broken: Option<Rule>,
     is_sound: bool,
 ) -> Result<Option<Vec<u8>>, CheckFault>
-    ensures { (earlier : List TheLine) (line : TheLine) (later : List TheLine) → AreLines 1 (lines bytes.now) (earlier ++ line ∷ later) → IsLine number text.now line → (IsTrue is_sound → fault_in line.message.kind ≡ None)
+    ensures text { (earlier : List TheLine) (line : TheLine) (later : List TheLine) → AreLines 1 (lines explainer.old) (earlier ++ line ∷ later) → IsLine number text.now line → (IsTrue is_sound → fault_in line.message.kind ≡ None)
         → MatchResult result (λ told. option_to_list (option_map (λ text. text.items) told) ≡ text_if explained true earlier line broken) (λ fault. fault ≡ CheckFault.OutOfMemory) }
+    ensures same { explainer.new ≡ explainer.old }
 {
     match broken {
         Some(rule) => {
             let line = number;
-            text_of_finding(alloc, bytes, explained, Finding { line, rule })
+            text_of_finding(alloc, explainer, explained, Finding { line, rule })
         }
         None => text_unless_sound(alloc, scratch, explained, number, text, is_sound),
     }
@@ -175,7 +178,7 @@ pub(crate) struct Listing<'a> {
 }
 
 /// What the line of a number breaks, and the findings behind it.
-fn split_rule(left: &[Finding], number: u64) -> (Option<Rule>, &[Finding])
+pub(crate) fn split_rule(left: &[Finding], number: u64) -> (Option<Rule>, &[Finding])
     ensures rule { result.0 ≡ rule_at number left.now }
     ensures left { result.1.now ≡ left_after number left.now }
 {
@@ -238,14 +241,15 @@ impl<'a> Listing<'a> {
         &mut self,
         alloc: Global,
         scratch: &mut Scratch,
-        bytes: &[u8],
+        explainer: &mut Explainer<'_>,
         options: CheckOptions,
         number: u64,
         text: &[u8],
     ) -> Result<(), CheckFault>
         requires { self.old.count < 2 ^ 64 - 1 }
-        ensures listed { (before : List TheLine) (line : TheLine) (after : List TheLine) (texts : List (List ℕ)) → AreLines 1 (lines bytes.now) (before ++ line ∷ after) → IsLine number text.now line → AreLines (number + 1) texts after → IsListed options before (line ∷ after) self.old
+        ensures listed { (before : List TheLine) (line : TheLine) (after : List TheLine) (texts : List (List ℕ)) → AreLines 1 (lines explainer.old) (before ++ line ∷ after) → IsLine number text.now line → AreLines (number + 1) texts after → IsListed options before (line ∷ after) self.old
             → MatchResult result (λ done. IsListed options (before ++ line ∷ []) after self.new) (λ fault. fault ≡ CheckFault.OutOfMemory) }
+        ensures same { explainer.new ≡ explainer.old }
         ensures room { self.new.count ≤ self.old.count + 1 }
     {
         let (broken, left) = split_rule(self.left, number);
@@ -253,7 +257,7 @@ impl<'a> Listing<'a> {
         let told = text_of_line(
             alloc,
             scratch,
-            bytes,
+            explainer,
             options.explained,
             number,
             text,
@@ -277,6 +281,7 @@ pub(crate) fn list_lines<'a>(
     ensures { (transcript : List TheLine) → AreLines 1 (lines bytes.now) transcript → findings options.any_seq transcript ≡ found.entry.now → AreSound transcript sound.entry.now → MatchResult result (IsListed options transcript []) (λ fault. fault ≡ CheckFault.OutOfMemory) }
 {
     let mut scratch = Scratch::new(alloc);
+    let mut explainer = Explainer::open(alloc, bytes);
     let mut listing = Listing::new(alloc, found, sound);
     let mut rest = bytes;
     let mut number = 0;
@@ -284,7 +289,7 @@ pub(crate) fn list_lines<'a>(
         let (text, later) = split_line(rest);
         number += 1;
         if !text.is_empty() {
-            listing.take(alloc, &mut scratch, bytes, options, number, text)?;
+            listing.take(alloc, &mut scratch, &mut explainer, options, number, text)?;
         }
         rest = later;
     }

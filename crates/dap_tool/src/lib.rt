@@ -1,14 +1,17 @@
 //! Tools over whole files, and faults as a program tells them.
 //!
 //! What this crate knows: files, statuses, and the lines that a program tells. What it must not know: header bytes, sessions,
-//! the rules of a transcript, and how a debuggee runs. It relies on the public contracts of the crates below alone, and hands
+//! the rules of a transcript, but for
+//! the hint at rule 1, and how a debuggee runs. It relies on the public contracts of the crates below alone, and hands
 //! on `list`, `show`, `unwrap`, `wrap`, `check`, `drive`, `drive_and_check` and the laws of both ends together.
 #![tactic(auto)]
 
 mod bodies;
+mod commands;
 mod explaining;
 mod fault;
 mod files;
+mod numbering;
 mod printed;
 mod reads;
 mod verdict;

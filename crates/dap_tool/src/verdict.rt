@@ -10,12 +10,15 @@ ghost use Rattle.dap_check.specs.declared.rule.AnySeq.{AnySeq};
 ghost use Rattle.dap_check.specs.declared.rule.Finding.{Finding as TheFinding};
 ghost use Rattle.dap_explain.specs.Reasons.{reason_of};
 ghost use Rattle.dap_explain.specs.Sentences.{joined_text};
-ghost use Rattle.dap_tool.specs.Verdicts.{text_of_finding, text_of_checked, text_of_reason, text_of_why, text_at, texts_of, count_text, closing_text, text_of_open, open_text, printed_text, text_of_verdict, IsVerdictText};
+ghost use Rattle.dap_tool.specs.Hints.{hint_if};
+ghost use Rattle.dap_tool.specs.Verdicts.{text_of_finding, text_of_checked, text_of_reason, text_of_why, text_at, texts_of, count_text, closing_text, text_of_request, text_of_open, open_text, printed_text, text_of_verdict, IsVerdictText};
 
 use crate::bodies::list_lines;
+use crate::commands::command_words;
+use crate::numbering::push_hint;
 use dap_check::laws::findings_are_broken_rules;
 use dap_check::{AnySeq, CheckFault, Checked, Finding, OpenRequest, Report, Rule, check_all};
-use dap_explain::{Reason, explain, sentence};
+use dap_explain::{Explainer, Reason, sentence};
 use dap_stream::{push_number, push_shown};
 use std::alloc::{AllocError, Global};
 
@@ -80,13 +83,14 @@ fn push_reason(alloc: Global, text: &mut Vec<u8>, reason: Reason) -> Result<(), 
 fn push_why(
     alloc: Global,
     text: &mut Vec<u8>,
-    bytes: &[u8],
+    explainer: &mut Explainer<'_>,
     finding: Finding,
 ) -> Result<(), CheckFault>
-    ensures { (earlier : List Line) (line : Line) (later : List Line) → AreLines 1 (lines bytes.now) (earlier ++ line ∷ later) → line.number ≡ finding.line
+    ensures text { (earlier : List Line) (line : Line) (later : List Line) → AreLines 1 (lines explainer.old) (earlier ++ line ∷ later) → line.number ≡ finding.line
         → MatchResult result (λ done. text.new.items ≡ text.old.items ++ text_of_why (reason_of finding.rule earlier line)) (λ fault. fault ≡ CheckFault.OutOfMemory) }
+    ensures same { explainer.new ≡ explainer.old }
 {
-    match explain(alloc, bytes, finding.line, finding.rule) {
+    match explainer.reason_at(alloc, finding.line, finding.rule) {
         Ok(None) => Ok(()),
         Ok(Some(reason)) => Ok(push_reason(alloc, text, reason)?),
         Err(fault) => Err(fault),
@@ -97,18 +101,19 @@ fn push_why(
 pub(crate) fn push_finding(
     alloc: Global,
     text: &mut Vec<u8>,
-    bytes: &[u8],
+    explainer: &mut Explainer<'_>,
     explained: bool,
     finding: Finding,
 ) -> Result<(), CheckFault>
-    ensures { (earlier : List Line) (line : Line) (later : List Line) → AreLines 1 (lines bytes.now) (earlier ++ line ∷ later) → line.number ≡ finding.line
+    ensures text { (earlier : List Line) (line : Line) (later : List Line) → AreLines 1 (lines explainer.old) (earlier ++ line ∷ later) → line.number ≡ finding.line
         → MatchResult result (λ done. text.new.items ≡ text.old.items ++ text_at explained earlier line finding.rule) (λ fault. fault ≡ CheckFault.OutOfMemory) }
+    ensures same { explainer.new ≡ explainer.old }
 {
     push_line(alloc, text, finding)?;
     if !explained {
         return Ok(());
     }
-    push_why(alloc, text, bytes, finding)
+    push_why(alloc, text, explainer, finding)
 }
 
 /// Appends the first findings of a transcript.
@@ -122,8 +127,9 @@ fn push_findings(
     ensures { (any_seq : AnySeq) (transcript : List Line) (rest : List TheFinding) → AreLines 1 (lines bytes.now) transcript → findings any_seq transcript ≡ first.now ++ rest
         → MatchResult result (λ done. text.new.items ≡ text.old.items ++ joined_text (take (length first.now) (texts_of any_seq explained false transcript))) (λ fault. fault ≡ CheckFault.OutOfMemory) }
 {
+    let mut explainer = Explainer::open(alloc, bytes);
     for finding in first {
-        push_finding(alloc, text, bytes, explained, *finding)?;
+        push_finding(alloc, text, &mut explainer, explained, *finding)?;
     }
     Ok(())
 }
@@ -152,8 +158,8 @@ fn push_closing(text: &mut Vec<u8>, all: bool, count: u64) -> Result<(), AllocEr
 
 // ---- requests that nothing has answered
 
-fn push_open(text: &mut Vec<u8>, request: &OpenRequest) -> Result<(), AllocError>
-    ensures { OnOk result (text.new.items ≡ text.old.items ++ text_of_open request.now) }
+fn push_request(text: &mut Vec<u8>, request: &OpenRequest) -> Result<(), AllocError>
+    ensures { OnOk result (text.new.items ≡ text.old.items ++ text_of_request request.now) }
 {
     text.extend_from_slice(b"line ")?;
     push_number(text, request.line)?;
@@ -164,11 +170,30 @@ fn push_open(text: &mut Vec<u8>, request: &OpenRequest) -> Result<(), AllocError
     text.extend_from_slice(b" is not answered\n")
 }
 
-fn push_each_open(text: &mut Vec<u8>, requests: &[OpenRequest]) -> Result<(), AllocError>
-    ensures { OnOk result (text.new.items ≡ text.old.items ++ flat_map text_of_open requests.now) }
+/// The same with what is said of its command, where it is to be explained.
+fn push_open(
+    text: &mut Vec<u8>,
+    explained: bool,
+    request: &OpenRequest,
+) -> Result<(), AllocError>
+    ensures { OnOk result (text.new.items ≡ text.old.items ++ text_of_open explained request.now) }
+{
+    push_request(text, request)?;
+    if !explained {
+        return Ok(());
+    }
+    text.extend_from_slice(command_words(request.command.as_str()).as_bytes())
+}
+
+fn push_each_open(
+    text: &mut Vec<u8>,
+    explained: bool,
+    requests: &[OpenRequest],
+) -> Result<(), AllocError>
+    ensures { OnOk result (text.new.items ≡ text.old.items ++ flat_map (text_of_open explained) requests.now) }
 {
     for request in requests {
-        push_open(text, request)?;
+        push_open(text, explained, request)?;
     }
     Ok(())
 }
@@ -176,13 +201,13 @@ fn push_each_open(text: &mut Vec<u8>, requests: &[OpenRequest]) -> Result<(), Al
 /// The same where it is asked for.
 fn push_unanswered(
     text: &mut Vec<u8>,
-    unanswered: bool,
+    options: CheckOptions,
     requests: &[OpenRequest],
 ) -> Result<(), AllocError>
-    ensures { OnOk result (text.new.items ≡ text.old.items ++ open_text unanswered requests.now) }
+    ensures { OnOk result (text.new.items ≡ text.old.items ++ open_text options.unanswered options.explained requests.now) }
 {
-    if unanswered {
-        return push_each_open(text, requests);
+    if options.unanswered {
+        return push_each_open(text, options.explained, requests);
     }
     Ok(())
 }
@@ -217,7 +242,8 @@ fn text_of(
     let first = printed(options.all, found);
     push_findings(alloc, &mut text, bytes, options.explained, first)?;
     push_closing(&mut text, options.all, found.len() as u64)?;
-    push_unanswered(&mut text, options.unanswered, &report.unanswered)?;
+    push_hint(&mut text, bytes, options.explained, found)?;
+    push_unanswered(&mut text, options, &report.unanswered)?;
     Ok(text)
 }
 
@@ -241,17 +267,19 @@ fn verdict(
     }
 }
 
-/// Appends to the lines that break a rule how many there are, and the requests that nothing has answered.
+/// Appends to the lines that break a rule how many there are, the hint, and the requests that nothing has answered.
 fn with_closing(
     mut text: Vec<u8>,
+    bytes: &[u8],
     count: u64,
     options: CheckOptions,
-    requests: &[OpenRequest],
+    report: &Report,
 ) -> Result<Vec<u8>, AllocError>
-    ensures { IfOk result (λ all. all.items ≡ (text.items ++ closing_text options.all count) ++ open_text options.unanswered requests.now) }
+    ensures { IfOk result (λ all. (transcript : List Line) → AreLines 1 (lines bytes.now) transcript → findings options.any_seq transcript ≡ report.now.findings.items → all.items ≡ ((text.items ++ closing_text options.all count) ++ hint_if options.explained options.any_seq transcript) ++ open_text options.unanswered options.explained report.now.unanswered.items) }
 {
     push_closing(&mut text, options.all, count)?;
-    push_unanswered(&mut text, options.unanswered, requests)?;
+    push_hint(&mut text, bytes, options.explained, report.findings.as_slice())?;
+    push_unanswered(&mut text, options, &report.unanswered)?;
     Ok(text)
 }
 
@@ -271,7 +299,7 @@ fn verdict_with_bodies(
     let found = report.findings.as_slice();
     let listing = list_lines(alloc, bytes, options, found, report.sound.as_slice())?;
     let is_legal = listing.count == 0;
-    let text = with_closing(listing.text, listing.count, options, &report.unanswered)?;
+    let text = with_closing(listing.text, bytes, listing.count, options, report)?;
     Ok(VerdictText { text, is_legal })
 }
 
@@ -291,10 +319,10 @@ fn verdict_of(
 }
 
 /// What a program prints of a transcript: that it is legal, or the first line that breaks a rule, counted from 1, and the
-/// first rule that it breaks; as the options say it, each such line and how many there are, why each breaks its rule, and
-/// after all that each request that nothing has answered. A message that is not as the Specification has it counts as a finding
-/// of rule 8 where bodies are checked and the line breaks none of the seven. Control characters of a command are shown as `?`. The texts of
-/// reasons take as long as the lines before them once more, each.
+/// first rule that it breaks; as the options say it, each such line and how many there are, why each breaks its rule, with
+/// a hint where a side numbers its messages in a way of its own, and after all that each request that nothing has answered. A message that is not as the Specification has it counts as a finding
+/// of rule 8 where bodies are checked and the line breaks none of the seven. Control characters of a command are shown as `?`. For the
+/// reasons the lines are read once more.
 ///
 /// # Errors
 /// Those of [`check`](dap_check::check): the first line that is of neither side or no message, before any finding.
