@@ -5,7 +5,7 @@ use Rattle.dap_reason.specs.Recordings.{words_of_refusal_found}
 use Rattle.dap_recording.specs.declared.reading.RecordingKey.{RecordingKey}
 use Rattle.dap_recording.specs.declared.reading.RecordingKey.TheVariants as key
 use Rattle.dap_refusal.specs.declared.refusal.BadCause.{BadCause}
-use Rattle.dap_refusal.specs.declared.refusal.BadCause.TheVariants.{Absent, OtherKind, NoElements, TooMany, OutOfRange, NoSource, PastLines, DuplicateId, NoThread}
+use Rattle.dap_refusal.specs.declared.refusal.BadCause.TheVariants.{Absent, OtherKind, NoElements, TooMany, TooLong, OutOfRange, NoSource, PastLines, DuplicateId, NoThread}
 use Rattle.dap_refusal.specs.declared.refusal.Element.{Element}
 use Rattle.dap_refusal.specs.declared.refusal.JsonKind.TheVariants as kind
 use Rattle.dap_refusal.specs.declared.refusal.RecordingRefusal.{RecordingRefusal}
@@ -48,6 +48,10 @@ not_whole = refl
 
 no_moments : bad [] key.Moments NoElements ≡ codes "moments: an empty array"
 no_moments = refl
+
+too_long : bad (at key.Moments 1 ∷ []) key.Stop (TooLong 70 64) ≡ codes "moments[1].stop: a text of 70 bytes, not at most 64"
+unfolding digits
+too_long = refl
 
 too_many : bad [] key.Sources (TooMany 65537) ≡ codes "sources: 65537 elements, more than 65536"
 unfolding digits

@@ -65,6 +65,7 @@ fn push_cause(out: &mut Vec<u8>, cause: &BadCause) -> Result<(), AllocError>
         BadCause::NoThread { id } => push_no_thread(out, *id),
         BadCause::NoElements => push(out, &[Part::Words("an empty array")]),
         BadCause::TooMany { count } => push_too_many(out, *count),
+        BadCause::TooLong { bytes, most } => push_too_long(out, *bytes, *most),
         BadCause::OutOfRange {
             number,
             least,
@@ -96,6 +97,20 @@ fn push_too_many(out: &mut Vec<u8>, count: u64) -> Result<(), AllocError>
         &[
             Part::Number(count),
             Part::Words(" elements, more than 65536"),
+        ],
+    )
+}
+
+fn push_too_long(out: &mut Vec<u8>, bytes: u64, most: u64) -> Result<(), AllocError>
+    ensures { OnOk result (out.new.items ≡ out.old.items ++ words_of_cause (BadCause.TooLong bytes most)) }
+{
+    push(
+        out,
+        &[
+            Part::Words("a text of "),
+            Part::Number(bytes),
+            Part::Words(" bytes, not at most "),
+            Part::Number(most),
         ],
     )
 }

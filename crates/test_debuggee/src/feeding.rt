@@ -3,6 +3,7 @@
 //! | a word | what |
 //! |---|---|
 //! | `!stop`, `!later` | the host tells a stop, whole or with more told later, and the debuggee is polled |
+//! | `!empty` | the same with more told later, of a moment whose first scope came with no variables |
 //! | `!tell:HOLDER:NAME:VALUE` | the same with a variable of a holder |
 //! | `!learn:TEXT:VALUE` | the same with the value of a text, whose parts are those of holder 70 |
 //! | `!sources` | the same with the sources of the recording, once more |
@@ -21,7 +22,7 @@ use std::alloc::Global;
 use std::rc::Rc;
 use std::test::Fail;
 
-/// A moment of one frame with two scopes, the first of which has no variables.
+/// A moment of one frame with two scopes, the first of which comes without its variables.
 const TWO_SCOPES: &str =
     r#"{"exit":0,"sources":[{"name":"a.c","path":"/a.c","text":"one\n"}],"moments":[{"thread":1,"threads":[{"id":1,"name":"main","frames":[{"name":"main","source":0,"line":1,"scopes":[{"name":"Locals"},{"name":"Globals","variables":[{"name":"x","value":"1"}]}]}]}]}]}"#;
 
@@ -29,15 +30,21 @@ fn two_scopes(alloc: Global) -> Option<Recorded> {
     Recorded::read(alloc, TWO_SCOPES.as_bytes()).ok()
 }
 
+fn first_scope_empty(alloc: Global) -> Option<Recorded> {
+    let (before, after) = TWO_SCOPES.split_once(r#""Locals""#)?;
+    let told = format!(in alloc; r#"{before}"Locals","variables":[]{after}"#).ok()?;
+    Recorded::read(alloc, told.as_str().as_bytes()).ok()
+}
+
 fn text(alloc: Global, text: &str) -> Option<Text> {
     Text::copied(alloc, text).ok()
 }
 
-fn stop(alloc: Global, later: bool) -> Option<Coming> {
+fn stop(alloc: Global, shows: Recorded, later: bool) -> Option<Coming> {
     Some(Coming::Stopped {
         reason: text(alloc, "step")?,
         thread: 1,
-        shows: two_scopes(alloc)?,
+        shows,
         later,
     })
 }
@@ -79,8 +86,9 @@ fn sources(alloc: Global) -> Option<Coming> {
 /// What a word tells.
 fn coming(alloc: Global, word: &str) -> Option<Coming> {
     match word {
-        "!stop" => stop(alloc, false),
-        "!later" => stop(alloc, true),
+        "!stop" => stop(alloc, two_scopes(alloc)?, false),
+        "!later" => stop(alloc, two_scopes(alloc)?, true),
+        "!empty" => stop(alloc, first_scope_empty(alloc)?, true),
         "!sources" => sources(alloc),
         _ => {
             let (word, rest) = word.split_once(":")?;
@@ -196,7 +204,7 @@ fn is_fed(alloc: Global, words: &str, wanted: &str) -> bool {
     is_so
 }
 
-static FEEDS: [(&str, &str); 10] = [
+static FEEDS: [(&str, &str); 11] = [
     // A moment that is whole.
     (
         "start !stop children:0 children:1 value:0:x",
@@ -206,6 +214,11 @@ static FEEDS: [(&str, &str); 10] = [
     (
         "start !later children:0 value:0:x !tell:0:x:2 !dropped children:0 value:0:x !tell:0:x:3 !dropped children:0",
         "done; step 1 line 1; refused; refused; nothing; heard; x=2; ; 2; nothing; told; x=2; ; ",
+    ),
+    // A scope that came with no variables has none, and is not told later.
+    (
+        "start !empty children:0 value:0:x !tell:0:x:2 !dropped children:0",
+        "done; step 1 line 1; ; 1; nothing; told; ; ",
     ),
     // What the moment has is not told again, and nothing is told before a stop, nor once it is gone.
     (

@@ -215,3 +215,32 @@ fn variables_and_the_rest(rt: HostRuntime) {
     let wrong = first_wrong(rt.alloc(), VARIABLES_AND_THE_REST);
     assert!(rt; wrong == "", "{wrong}");
 }
+
+static STOPS: &str = r#""waits":true|"waits":true,"stop":"signal"|none
+"waits":true|"waits":true,"stop":""|none
+"waits":true|"stop":null|Stop
+"waits":true|"stop":1|Stop
+"waits":true|"stop":["signal"]|Stop
+"waits":true|"stop":"aaaaaaaaaaaaaaaaaaaaaaaaaaaaaaaaaaaaaaaaaaaaaaaaaaaaaaaaaaaaaaaa"|none
+"waits":true|"stop":"aaaaaaaaaaaaaaaaaaaaaaaaaaaaaaaaaaaaaaaaaaaaaaaaaaaaaaaaaaaaaaaaa"|Stop
+"waits":true|"stop":"éééééééééééééééééééééééééééééééé"|none
+"waits":true|"stop":"ééééééééééééééééééééééééééééééééa"|Stop
+"waits":true|"stop":"signal","description":"aaaaaaaaaaaaaaaaaaaaaaaaaaaaaaaaaaaaaaaaaaaaaaaaaaaaaaaaaaaaaaaaaaaaaaaaaaaaaaaaaaaaaaaaaaaaaaaaaaaaaaaaaaaaaaaaaaaaaaaaaaaaaaaa"|none
+"waits":true|"stop":"signal","description":"aaaaaaaaaaaaaaaaaaaaaaaaaaaaaaaaaaaaaaaaaaaaaaaaaaaaaaaaaaaaaaaaaaaaaaaaaaaaaaaaaaaaaaaaaaaaaaaaaaaaaaaaaaaaaaaaaaaaaaaaaaaaaaaaa"|Description
+"waits":true|"stop":"signal","description":null|Description
+"waits":true|"stop":"signal","text":"aaaaaaaaaaaaaaaaaaaaaaaaaaaaaaaaaaaaaaaaaaaaaaaaaaaaaaaaaaaaaaaaaaaaaaaaaaaaaaaaaaaaaaaaaaaaaaaaaaaaaaaaaaaaaaaaaaaaaaaaaaaaaaaa"|none
+"waits":true|"stop":"signal","text":"aaaaaaaaaaaaaaaaaaaaaaaaaaaaaaaaaaaaaaaaaaaaaaaaaaaaaaaaaaaaaaaaaaaaaaaaaaaaaaaaaaaaaaaaaaaaaaaaaaaaaaaaaaaaaaaaaaaaaaaaaaaaaaaaa"|Text
+"waits":true|"stop":"signal","text":7|Text
+"waits":true|"description":"d","text":"t"|none
+"waits":true|"description":null|Description
+"waits":true|"text":null|Text
+"waits":true|"text":null,"description":null,"stop":null|Stop
+"waits":true|"text":null,"description":null,"stop":"signal"|Description
+"waits":true|"stop":null,"waits":null|Waits"#;
+
+/// A stop of a moment's own: its reason, its description and its text.
+#[test]
+fn stops(rt: HostRuntime) {
+    let wrong = first_wrong(rt.alloc(), STOPS);
+    assert!(rt; wrong == "", "{wrong}");
+}

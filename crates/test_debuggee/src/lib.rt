@@ -4,6 +4,8 @@
 #[cfg(test)]
 mod feeding;
 #[cfg(test)]
+mod hosts;
+#[cfg(test)]
 mod keys;
 #[cfg(test)]
 mod playing;

@@ -65,6 +65,44 @@ fn moves(rt: HostRuntime) {
     }
 }
 
+/// Five moments: the first, the second, in a function, and the last have a stop of their own; the fourth waits.
+const STOPPING: &str =
+    r#"{"exit":3,"sources":[{"name":"a.c","path":"/a.c","text":"one\ntwo\nthree\nfour\n"}],"moments":[{"thread":1,"threads":[{"id":1,"name":"main","frames":[{"name":"main","source":0,"line":1}]}],"stop":"library"},{"thread":1,"threads":[{"id":1,"name":"main","frames":[{"name":"f","source":0,"line":3},{"name":"main","source":0,"line":2}]}],"stop":"exception","description":"Thrown.","text":"f"},{"thread":1,"threads":[{"id":1,"name":"main","frames":[{"name":"main","source":0,"line":2}]}]},{"thread":1,"threads":[{"id":1,"name":"main","frames":[{"name":"main","source":0,"line":3}]}],"waits":true},{"thread":1,"threads":[{"id":1,"name":"main","frames":[{"name":"main","source":0,"line":4}]}],"stop":"signal"}]}"#;
+
+static STOPS: [(&str, &str); 5] = [
+    // Forward each of them stops a run, the first one too.
+    (
+        "start poll stepIn poll stepIn poll",
+        "done; library 1 line 1; done; exception 1 line 3; done; step 1 line 2; ",
+    ),
+    // A function in which it stops is not stepped over; a waiting moment comes before a later stop.
+    (
+        "start poll next poll next poll continue poll pause poll continue poll continue poll",
+        "done; library 1 line 1; done; exception 1 line 3; done; step 1 line 2; done; nothing; done; pause 1 line 3; done; signal 1 line 4; done; exited 3; ",
+    ),
+    // Backward none does, and the moment does not say why.
+    (
+        "start poll continue poll stepOut poll stepBack poll reverseContinue poll",
+        "done; library 1 line 1; done; exception 1 line 3; done; step 1 line 2; done; step 1 line 3; done; entry 1 line 1; ",
+    ),
+    (
+        "start poll continue poll line reverseContinue poll",
+        "done; library 1 line 1; done; exception 1 line 3; set; done; breakpoint 1 line 1; ",
+    ),
+    // On the way out of a function.
+    (
+        "start poll stepOut poll",
+        "done; library 1 line 1; done; exception 1 line 3; ",
+    ),
+];
+
+#[test]
+fn stops(rt: HostRuntime) {
+    for (words, wanted) in &STOPS {
+        assert!(rt; is_moved(rt.alloc(), STOPPING, words, wanted), "{words}");
+    }
+}
+
 /// A query, and what it tells.
 type Row = (Query, &'static str);
 

@@ -39,12 +39,16 @@ fn add_threads(told: &mut String, threads: &[Thread]) -> bool {
     true
 }
 
-/// Frames as objects, names, sources and lines.
+/// Frames as objects, names, sources, `-` where there is none, and lines.
 fn add_frames(told: &mut String, frames: &[Frame]) -> bool {
     for frame in frames {
         let (object, name) = (frame.object, frame.name.as_str());
-        let (source, line) = (frame.source, frame.line);
-        if write!(told, "{object} {name} {source} {line}; ").is_err() {
+        let line = frame.line;
+        let is_told = match frame.source {
+            None => write!(told, "{object} {name} - {line}; ").is_ok(),
+            Some(source) => write!(told, "{object} {name} {source} {line}; ").is_ok(),
+        };
+        if !is_told {
             return false;
         }
     }
