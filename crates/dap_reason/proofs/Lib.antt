@@ -2,3 +2,4 @@ mod ExcerptsExamples
 mod RecordingsExamples
 mod StreamsExamples
 pub mod Blank
+pub mod BadLines

@@ -77,7 +77,8 @@ pub fn push_wrap(out: &mut Vec<u8>, bytes: &[u8], fault: &WrapFault) -> Result<(
 }
 
 /// What a file of frames is for, where a transcript is wanted.
-const STREAM: &str = " begins a frame: dap show lists a stream of them, and scripts/transcripts streams UP DOWN makes a transcript of both directions";
+const STREAM: &str =
+    " begins a frame: dap show lists a stream of them, and scripts/transcripts streams UP DOWN makes a transcript of both directions";
 
 /// Appends which line is of neither side, and what to do with a stream of frames.
 fn push_bad_line(out: &mut Vec<u8>, bytes: &[u8], line: u64) -> Result<(), AllocError>

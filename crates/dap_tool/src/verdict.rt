@@ -171,11 +171,7 @@ fn push_request(text: &mut Vec<u8>, request: &OpenRequest) -> Result<(), AllocEr
 }
 
 /// The same with what is said of its command, where it is to be explained.
-fn push_open(
-    text: &mut Vec<u8>,
-    explained: bool,
-    request: &OpenRequest,
-) -> Result<(), AllocError>
+fn push_open(text: &mut Vec<u8>, explained: bool, request: &OpenRequest) -> Result<(), AllocError>
     ensures { OnOk result (text.new.items ≡ text.old.items ++ text_of_open explained request.now) }
 {
     push_request(text, request)?;
@@ -278,7 +274,12 @@ fn with_closing(
     ensures { IfOk result (λ all. (transcript : List Line) → AreLines 1 (lines bytes.now) transcript → findings options.any_seq transcript ≡ report.now.findings.items → all.items ≡ ((text.items ++ closing_text options.all count) ++ hint_if options.explained options.any_seq transcript) ++ open_text options.unanswered options.explained report.now.unanswered.items) }
 {
     push_closing(&mut text, options.all, count)?;
-    push_hint(&mut text, bytes, options.explained, report.findings.as_slice())?;
+    push_hint(
+        &mut text,
+        bytes,
+        options.explained,
+        report.findings.as_slice(),
+    )?;
     push_unanswered(&mut text, options, &report.unanswered)?;
     Ok(text)
 }
