@@ -26,7 +26,7 @@ pub record IsWritten {D : Type 0} (shown : D → Shown) (follows : Goes D) (limi
 -- ---- two requests wait, and the first of them is cancelled
 
 abbrev pub nothing_recorded : Recording
-nothing_recorded = record { exit = pos 0; sources = []; moments = []; scopes = []; variables = [] }
+nothing_recorded = record { exit = pos 0; sources = []; moments = []; scopes = []; variables = []; untold = [] }
 
 abbrev pub cancelled_texts : List (Side × List ℕ)
 cancelled_texts =
