@@ -53,7 +53,7 @@ words_of_wrap bytes wrap.OutOfMemory = no_memory
 abbrev pub is_of_frame : List ℕ → Bool
 is_of_frame text = starts_with nat_eq text (codes "Content-Length:")
 
-unfoldable pub words_of_stream : List ℕ
+abbrev pub words_of_stream : List ℕ
 words_of_stream = codes " begins a frame: dap show lists a stream of them, and scripts/transcripts streams UP DOWN makes a transcript of both directions"
 
 abbrev pub words_of_bad_line : List ℕ → ℕ → List ℕ

@@ -1,7 +1,7 @@
 //! Why a stream, a file of messages or a transcript is refused, in words.
 
 ghost use Rattle.std.specs.Prelude.{◌≡◌, ◌++◌, OnOk};
-ghost use Rattle.dap_reason.specs.Streams.{words_of_refusal, words_of_body_refusal, words_of_show, words_of_wrap, words_of_bad_line, words_of_check, words_of_stream};
+ghost use Rattle.dap_reason.specs.Streams.{words_of_refusal, words_of_body_refusal, words_of_show, words_of_wrap, words_of_bad_line, words_of_check};
 
 use crate::excerpt::{Part, bytes_at, header_at, line_of_number, push, push_at, push_at_line};
 use crate::recordings::NO_MEMORY;
@@ -80,21 +80,13 @@ pub fn push_wrap(out: &mut Vec<u8>, bytes: &[u8], fault: &WrapFault) -> Result<(
 const STREAM: &str =
     " begins a frame: dap show lists a stream of them, and scripts/transcripts streams UP DOWN makes a transcript of both directions";
 
-/// Appends what to do with a stream of frames.
-#[tactic(auto, unfolding(crate::specs::Streams::words_of_stream))]
-fn push_stream(out: &mut Vec<u8>) -> Result<(), AllocError>
-    ensures { OnOk result (out.new.items ≡ out.old.items ++ words_of_stream) }
-{
-    push(out, &[Part::Words(STREAM)])
-}
-
 /// Appends which line is of neither side, and what to do with a stream of frames.
 fn push_bad_line(out: &mut Vec<u8>, bytes: &[u8], line: u64) -> Result<(), AllocError>
     ensures { OnOk result (out.new.items ≡ out.old.items ++ words_of_bad_line bytes.now line) }
 {
     push_at_line(out, bytes, line)?;
     if line_of_number(bytes, line).starts_with(b"Content-Length:") {
-        return push_stream(out);
+        return push(out, &[Part::Words(STREAM)]);
     }
     Ok(())
 }
