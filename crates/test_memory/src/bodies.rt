@@ -106,7 +106,7 @@ fn frame(alloc: Global, name: Text) -> Result<StackFrame, AllocError> {
         Ok(source) => Ok(StackFrame {
             id: 1,
             name,
-            source,
+            source: Some(source),
             line: 3,
             column: 1,
         }),

@@ -40,7 +40,7 @@ fn body(alloc: Global, place: usize) -> Result<Option<Body>, AllocError> {
             variables: variables(alloc, &[("v", "1", 0)])?,
         },
         4 => Body::StackTrace {
-            stack_frames: frames(alloc, &[(1, "f", ("a", Some("/a"), 2), 3, 4)])?,
+            stack_frames: frames(alloc, &[(1, "f", Some(("a", Some("/a"), 2)), 3, 4)])?,
             total_frames: 5,
         },
         5 => Body::LoadedSources {

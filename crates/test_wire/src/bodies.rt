@@ -220,12 +220,13 @@ static RESPONSES: [(Response, &str); 16] = [
     (
         Response::Frames(
             &[
-                (1, "main", ("a.c", Some("/a.c"), 1), 3, 1),
-                (2, "start", ("b.c", None, 2), 0, 0),
+                (1, "main", Some(("a.c", Some("/a.c"), 1)), 3, 1),
+                (2, "start", Some(("b.c", None, 2)), 0, 0),
+                (3, "lib", None, 0, 0),
             ],
             5,
         ),
-        r#"{"stackFrames":[{"column":1,"id":1,"line":3,"name":"main","source":{"name":"a.c","path":"/a.c","sourceReference":1}},{"column":0,"id":2,"line":0,"name":"start","source":{"name":"b.c","sourceReference":2}}],"totalFrames":5}"#,
+        r#"{"stackFrames":[{"column":1,"id":1,"line":3,"name":"main","source":{"name":"a.c","path":"/a.c","sourceReference":1}},{"column":0,"id":2,"line":0,"name":"start","source":{"name":"b.c","sourceReference":2}},{"column":0,"id":3,"line":0,"name":"lib"}],"totalFrames":5}"#,
     ),
     (
         Response::Scopes(&[("Locals", 2)]),

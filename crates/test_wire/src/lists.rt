@@ -8,7 +8,7 @@ use std::alloc::{AllocError, Global};
 pub(crate) type SourceRow = (&'static str, Option<&'static str>, u32);
 
 /// The number, name, source, line and column of a frame.
-pub(crate) type FrameRow = (u32, &'static str, SourceRow, u32, u32);
+pub(crate) type FrameRow = (u32, &'static str, Option<SourceRow>, u32, u32);
 
 pub(crate) fn breakpoints(
     alloc: Global,
@@ -96,7 +96,10 @@ pub(crate) fn sources(alloc: Global, rows: &[SourceRow]) -> Result<Vec<Source>, 
 
 fn frame(alloc: Global, row: FrameRow) -> Result<StackFrame, AllocError> {
     let (id, name, of, line, column) = row;
-    let source = source(alloc, of)?;
+    let source = match of {
+        None => None,
+        Some(of) => Some(source(alloc, of)?),
+    };
     Ok(StackFrame {
         id,
         name: Text::copied(alloc, name)?,
