@@ -1,4 +1,4 @@
-use Rattle.std.proofs.Common.{◌≡◌, Err, refl, sym, subst, ◌∙◌}
+use Rattle.std.proofs.Common.{◌≡◌, Err, refl, rules, sym, subst, ◌∙◌}
 use Rattle.std.specs.Prelude.{IfErr}
 use Rattle.dap_recording.specs.declared.reading.RecordingFault.TheVariants.{OutOfMemory}
 use Rattle.dap_line.specs.Moments.{FileRefused}
