@@ -170,30 +170,23 @@ def played_as(name, path, stops, code):
 
 def moved_as(name, path, transcript):
     """The client's own moves, with the lines that it set, lead from stop to stop with the reasons of the session."""
-    client, stops, said = Recorded([DAP, "serve", path]), [], {}
+    client, stops, said = Recorded([DAP, "serve", path]), [], []
     client.ask("initialize", adapterID="rec")
     client.send("launch")
-    moments = recording_of(path)["moments"]
     for line in transcript.decode().splitlines():
         message = json.loads(line[2:])
         if message.get("event") == "stopped":
-            said[len(said)] = reason_of(message["body"])
+            said.append(message["body"]["reason"])
         elif message["type"] == "request" and message["command"] in MOVES:
             client.ask(message["command"], **message.get("arguments", {}))
             if message["command"] != "setBreakpoints":
                 stops.append(client.wait_for("stopped", "exited"))
-    wanted = [one if "stop" in moments[place] else one[:1] for place, one in said.items()]
-    got = [reason_of(stop["body"]) for stop in stops if stop["event"] == "stopped"]
-    expect(f"record: {name}: the same moves", got, wanted)
+    got = [stop["body"]["reason"] for stop in stops if stop["event"] == "stopped"]
+    expect(f"record: {name}: the same moves", got, said)
     client.end()
 
 
 MOVES = ("setBreakpoints", "configurationDone", "continue", "next", "stepIn", "stepOut")
-
-
-def reason_of(stopped):
-    """The reason: what else was told of it, the recording has, and no event of its own tells."""
-    return stopped["reason"]
 
 
 # Recordings that were written by hand, played to a client, and recorded again.
