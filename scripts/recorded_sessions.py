@@ -258,10 +258,10 @@ def by_moves():
                 session.hear(False, json.loads(body))
         made, _ = recorder.recording_of(session, True)
         status, out, err = run(["serve", file_of("again", made)], b"".join(frames_of(guided.requests)))
-        wanted = list(ways_of(b"".join(guided.answers), made["moments"]))
+        wanted = list(ways_of(b"".join(guided.answers)))
         stops += sum(isinstance(one, tuple) for one in wanted)
         own += sum("stop" in one for one in made["moments"])
-        if (status, list(ways_of(out, made["moments"])), err) != (0, wanted, b""):
+        if (status, list(ways_of(out)), err) != (0, wanted, b""):
             wrong.append(seed)
     expect(f"record: random sessions with {stops} stops, of which {own} have a reason of their own", wrong, [])
     expect("record: random sessions have such, and others", stops > 2 * own > 400, True)
@@ -301,14 +301,11 @@ def set_some_lines(guided, choice):
     guided.ask("setBreakpoints", {"source": {"path": choice.choice(["/a", "/b"])}, "breakpoints": lines})
 
 
-def ways_of(stream, moments):
-    """Of each stop the thread and what is said of it, and the exit code."""
-    place = 0
+def ways_of(stream):
+    """Of each stop the thread and the reason, and the exit code."""
     for message in (json.loads(body) for _, body in split(stream)):
         if message.get("event") == "stopped":
-            told = reason_of(message["body"])
-            yield message["body"]["threadId"], *(told if "stop" in moments[place] else told[:1])
-            place = min(place + 1, len(moments) - 1)
+            yield message["body"]["threadId"], message["body"]["reason"]
         elif message.get("event") == "exited":
             yield message["body"]["exitCode"]
 
