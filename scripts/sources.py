@@ -108,6 +108,11 @@ def handed_on(text, modules=()):
     return names, others
 
 
+def own_handed_on(text):
+    """The names of its own crate that a module hands out."""
+    return {name for name, (first, _, _) in handed_on(text)[1].items() if first == "crate"}
+
+
 def read_module(crate, path, exported):
     with open(path, encoding="utf-8") as file:
         text = without_comments(file.read())
@@ -211,6 +216,9 @@ def read_crates(here=HERE):
         if os.path.exists(lib):
             with open(lib, encoding="utf-8") as file:
                 exported = read_exports(crate, without_comments(file.read()))
+            for module in [module for module, public in crate.modules.items() if public]:
+                with open(os.path.join(folder, module + ".rt"), encoding="utf-8") as file:
+                    exported |= own_handed_on(without_comments(file.read()))
         for path in sorted(glob.glob(os.path.join(folder, "*.rt"))):
             read_module(crate, path, exported)
     settle(crates)

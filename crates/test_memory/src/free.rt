@@ -19,7 +19,7 @@ use dap_recording::RecordingFault;
 use dap_replay::Recorded;
 use dap_tables::Seq;
 use dap_tool::{ToolFault, status};
-use dap_view::{evaluate, set_variable, source};
+use dap_body::view::{evaluate, set_variable, source};
 use serde_json::Value;
 use std::alloc::{AllocError, Global};
 use std::test::Fail;

@@ -2,7 +2,7 @@
 
 use crate::outcomes::{both, judge, refused};
 use dap_json::{ParseFault, parse};
-use dap_view::{
+use dap_body::view::{
     Breakpoint, Scope, Source, StackFrame, Thread, Variable, ViewFault, breakpoints,
     loaded_sources, scopes, stack_trace, threads, variables,
 };

@@ -2,7 +2,7 @@
 
 use crate::checks::check;
 use dap_json::parse;
-use dap_view::{
+use dap_body::view::{
     breakpoints, evaluate, loaded_sources, scopes, set_variable, source, stack_trace, threads,
     variables,
 };
