@@ -240,6 +240,7 @@ class Specs:
         self.files = {}  # (crate, file): {name: Definition}
         self.scopes = {}  # (crate, file): {name: (crate, file, name)}, with names of files as (crate, file, None)
         self.passed_on = {}  # crate: {file: (crate, file)}, by `pub use` of a whole file
+        self.handed_on = {}  # (crate, file): {name: (crate, file, name)}, by `pub use` of a definition
         for path in sorted(glob.glob(os.path.join(here, "crates", "*", "specs", "*.antt"))):
             self.read(path)
         self.reached = {}
@@ -272,6 +273,8 @@ class Specs:
             parts = line.split(".")
             self.passed_on.setdefault(crate, {})[parts[-1]] = (parts[0], parts[-1])
         self.scopes[crate, file] = scope_of(text)
+        handed = "\n".join(line[len("pub ") :] for line in text.split("\n") if line.startswith("pub use "))
+        self.handed_on[crate, file] = {name: meant for name, meant in scope_of(handed).items() if meant[2] is not None}
 
     def home(self, crate, file):
         """The crate and file that a file's name in a crate means."""
@@ -303,11 +306,18 @@ class Specs:
                 meant = scope.get(name)
             if not meant or meant[2] is None:
                 continue
-            home = self.home(meant[0], meant[1])
-            definition = self.files[home].get(meant[2]) if home else None
+            definition = self.meant(*meant)
             if definition:
                 found.append(definition)
         return found
+
+    def meant(self, crate, file, name):
+        """The definition that a name of a file means, also one of another file that this one hands on."""
+        home = self.home(crate, file)
+        if not home:
+            return None
+        other = self.handed_on[home].get(name)
+        return self.meant(*other) if other else self.files[home].get(name)
 
     def below(self, definition):
         key = (definition.crate, definition.file)

@@ -7,7 +7,8 @@ use Rattle.serde_json.specs.Data.{Data}
 use Rattle.serde_json.specs.View.{view, items_view}
 use Rattle.serde_json.specs.declared.value.Value.{Value}
 use Rattle.dap_json.specs.Steps.{◌>>=◌}
-use Rattle.dap_body.specs.At.{Read, ok_map}
+use Rattle.dap_json.specs.Property.{ok_map}
+use Rattle.dap_body.specs.At.{Read}
 use Rattle.dap_body.specs.View.{Viewed, each}
 use Rattle.dap_body.specs.declared.key.BodyKey.{BodyKey}
 use Rattle.dap_body.specs.declared.fault.ViewFault.{ViewFault}

@@ -6,8 +6,9 @@ use Rattle.serde_json.specs.Data.{Data}
 use Rattle.serde_json.specs.Find.{as_str, as_bool}
 use Rattle.dap_json.specs.Steps.{◌>>=◌}
 use Rattle.dap_json.specs.Field.{object_of}
-use Rattle.dap_command.specs.Numbers.{int_of, number_of, seq_of}
-use Rattle.dap_body.specs.At.{Read, or_fault, required_at, optional_at, optional_or}
+use Rattle.dap_json.specs.Numbers.{int_of, number_of, seq_of}
+use Rattle.dap_json.specs.Property.{or_bad}
+use Rattle.dap_body.specs.At.{Read, required_at, optional_at, optional_or}
 use Rattle.dap_body.specs.declared.key.BodyKey.TheVariants as key
 
 -- ---- what is in each
@@ -59,7 +60,7 @@ thread_of d = do
 -- an object, or `source` is at fault
 unfoldable pub source_in : Data → Read SourceParts
 source_in d = do
-  found ← or_fault key.Source (object_of d)
+  found ← or_bad key.Source (object_of d)
   name ← optional_at as_str key.Name found
   path ← optional_at as_str key.Path found
   reference ← optional_or number_of 0 key.SourceReference found

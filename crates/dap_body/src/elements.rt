@@ -4,13 +4,12 @@
 //! Lines and columns are as they came: whether they count from 0 or 1 is what `initialize` has said.
 ghost use Rattle.std.specs.Prelude.{◌≡◌, option_map};
 ghost use Rattle.serde_json.specs.View.{view};
-ghost use Rattle.dap_body.specs.At.{ok_map, optional_at};
+ghost use Rattle.dap_json.specs.Property.{ok_map};
+ghost use Rattle.dap_body.specs.At.{optional_at};
 ghost use Rattle.dap_body.specs.Elements.{thread_of, source_in, source_of, stack_frame_of, scope_of, variable_of, breakpoint_of, evaluation_of};
 ghost use Rattle.dap_body.specs.Lent.{thread_parts, source_parts, stack_frame_parts, scope_parts, variable_parts, breakpoint_parts, evaluation_parts};
 
-use crate::at;
-use crate::key::BodyKey;
-use dap_json::field;
+use crate::key::{BodyKey, at};
 use serde_json::Value;
 
 /// A thread of the debuggee.
@@ -88,8 +87,8 @@ impl<'v> Thread<'v> {
     pub(crate) fn read(object: &'v Value) -> Result<Thread<'v>, BodyKey>
         ensures { ok_map thread_parts result ≡ thread_of (view object.now) }
     {
-        let id = at::required_int(object, BodyKey::Id)?;
-        let name = at::required_text(object, BodyKey::Name)?;
+        let id = at(object, BodyKey::Id).required_int()?;
+        let name = at(object, BodyKey::Name).required_text()?;
         Ok(Thread { id, name })
     }
 }
@@ -102,9 +101,9 @@ impl<'v> Source<'v> {
         if !object.is_object() {
             return Err(BodyKey::Source);
         }
-        let name = at::optional_text(object, BodyKey::Name)?;
-        let path = at::optional_text(object, BodyKey::Path)?;
-        let source_reference = at::number_or_zero(object, BodyKey::SourceReference)?;
+        let name = at(object, BodyKey::Name).optional_text()?;
+        let path = at(object, BodyKey::Path).optional_text()?;
+        let source_reference = at(object, BodyKey::SourceReference).number_or(0)?;
         Ok(Source {
             name,
             path,
@@ -125,7 +124,7 @@ fn source_object(value: &Value) -> Option<Source<'_>>
 fn optional_source(object: &Value) -> Result<Option<Source<'_>>, BodyKey>
     ensures { ok_map (option_map source_parts) result ≡ optional_at source_of BodyKey.Source (view object.now) }
 {
-    match field::present(object, BodyKey::Source.name()) {
+    match at(object, BodyKey::Source).found {
         None => Ok(None),
         Some(value) => match source_object(value) {
             None => Err(BodyKey::Source),
@@ -139,10 +138,10 @@ impl<'v> StackFrame<'v> {
     pub(crate) fn read(object: &'v Value) -> Result<StackFrame<'v>, BodyKey>
         ensures { ok_map stack_frame_parts result ≡ stack_frame_of (view object.now) }
     {
-        let id = at::required_number(object, BodyKey::Id)?;
-        let name = at::required_text(object, BodyKey::Name)?;
-        let line = at::required_number(object, BodyKey::Line)?;
-        let column = at::required_number(object, BodyKey::Column)?;
+        let id = at(object, BodyKey::Id).required_number()?;
+        let name = at(object, BodyKey::Name).required_text()?;
+        let line = at(object, BodyKey::Line).required_number()?;
+        let column = at(object, BodyKey::Column).required_number()?;
         let source = optional_source(object)?;
         Ok(StackFrame {
             id,
@@ -159,9 +158,9 @@ impl<'v> Scope<'v> {
     pub(crate) fn read(object: &'v Value) -> Result<Scope<'v>, BodyKey>
         ensures { ok_map scope_parts result ≡ scope_of (view object.now) }
     {
-        let name = at::required_text(object, BodyKey::Name)?;
-        let variables_reference = at::required_number(object, BodyKey::VariablesReference)?;
-        let expensive = at::required_flag(object, BodyKey::Expensive)?;
+        let name = at(object, BodyKey::Name).required_text()?;
+        let variables_reference = at(object, BodyKey::VariablesReference).required_number()?;
+        let expensive = at(object, BodyKey::Expensive).required_flag()?;
         Ok(Scope {
             name,
             variables_reference,
@@ -175,9 +174,9 @@ impl<'v> Variable<'v> {
     pub(crate) fn read(object: &'v Value) -> Result<Variable<'v>, BodyKey>
         ensures { ok_map variable_parts result ≡ variable_of (view object.now) }
     {
-        let name = at::required_text(object, BodyKey::Name)?;
-        let value = at::required_text(object, BodyKey::Value)?;
-        let variables_reference = at::required_number(object, BodyKey::VariablesReference)?;
+        let name = at(object, BodyKey::Name).required_text()?;
+        let value = at(object, BodyKey::Value).required_text()?;
+        let variables_reference = at(object, BodyKey::VariablesReference).required_number()?;
         Ok(Variable {
             name,
             value,
@@ -191,10 +190,10 @@ impl<'v> Breakpoint<'v> {
     pub(crate) fn read(object: &'v Value) -> Result<Breakpoint<'v>, BodyKey>
         ensures { ok_map breakpoint_parts result ≡ breakpoint_of (view object.now) }
     {
-        let id = at::optional_whole(object, BodyKey::Id)?;
-        let verified = at::required_flag(object, BodyKey::Verified)?;
-        let line = at::optional_number(object, BodyKey::Line)?;
-        let message = at::optional_text(object, BodyKey::Message)?;
+        let id = at(object, BodyKey::Id).optional_whole()?;
+        let verified = at(object, BodyKey::Verified).required_flag()?;
+        let line = at(object, BodyKey::Line).optional_number()?;
+        let message = at(object, BodyKey::Message).optional_text()?;
         Ok(Breakpoint {
             id,
             verified,
@@ -209,8 +208,8 @@ impl<'v> Evaluation<'v> {
     pub(crate) fn read(object: &'v Value) -> Result<Evaluation<'v>, BodyKey>
         ensures { ok_map evaluation_parts result ≡ evaluation_of (view object.now) }
     {
-        let text = at::required_text(object, BodyKey::Result)?;
-        let variables_reference = at::required_number(object, BodyKey::VariablesReference)?;
+        let text = at(object, BodyKey::Result).required_text()?;
+        let variables_reference = at(object, BodyKey::VariablesReference).required_number()?;
         Ok(Evaluation {
             result: text,
             variables_reference,

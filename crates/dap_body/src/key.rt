@@ -1,5 +1,12 @@
 //! The keys of bodies: Specification, the types whose names end in "Response", and "Types".
 ghost use Rattle.std.specs.Prelude.{◌≡◌};
+ghost use Rattle.dap_json.specs.Lent.{lent_data};
+ghost use Rattle.serde_json.specs.View.{view};
+ghost use Rattle.dap_body.specs.At.{value_at};
+
+use dap_json::field;
+use dap_json::property::Property;
+use serde_json::Value;
 
 /// A key of a body, or of an object in it.
 #[derive(Clone, Copy, Debug, PartialEq, Eq)]
@@ -58,4 +65,13 @@ impl BodyKey {
             BodyKey::Message => "message",
         }
     }
+}
+
+/// What stands at a key of an object. `null` counts as absent.
+pub(crate) fn at<'v>(object: &'v Value, key: BodyKey) -> Property<'v, BodyKey>
+    ensures key { result.key ≡ key }
+    ensures found { lent_data result.found ≡ value_at key (view object.now) }
+{
+    let found = field::present(object, key.name());
+    Property { found, key }
 }

@@ -5,7 +5,6 @@
 //! envelope of a message, nor header fields.
 #![tactic(auto)]
 
-mod at;
 mod body;
 mod elements;
 mod event;

@@ -5,7 +5,7 @@
 //! `null` counts as absent. What the body of `initialize` offers is read by [`Capabilities::read`].
 ghost use Rattle.std.specs.Prelude.{◌≡◌, map, [], ◌∷◌, ◌++◌, MatchResult};
 ghost use Rattle.serde_json.specs.View.{view};
-ghost use Rattle.dap_body.specs.At.{ok_map};
+ghost use Rattle.dap_json.specs.Property.{ok_map};
 ghost use Rattle.dap_body.specs.View.{Gives, threads_in, stack_frames_in, stack_trace_in, scopes_in, variables_in, breakpoints_in, sources_in, evaluation_in, value_in, content_in, stack_trace_parts};
 ghost use Rattle.dap_body.specs.Lent.{thread_parts, source_parts, stack_frame_parts, scope_parts, variable_parts, breakpoint_parts, evaluation_parts};
 
@@ -14,7 +14,7 @@ pub use crate::fault::ViewFault;
 pub use crate::key::BodyKey;
 pub use dap_command::Capabilities;
 
-use crate::at;
+use crate::key::at;
 use serde_json::Value;
 use std::alloc::Global;
 
@@ -46,7 +46,7 @@ fn add<T: Drop>(found: &mut Vec<T>, index: usize, read: Result<T, BodyKey>) -> R
 pub fn threads(alloc: Global, body: &Value) -> Result<Vec<Thread<'_>>, ViewFault>
     ensures { Gives (λ found. map thread_parts found.items) result (threads_in (view body.now)) }
 {
-    let items = at::required_items(body, BodyKey::Threads)?;
+    let items = at(body, BodyKey::Threads).required_items()?;
     let mut found = Vec::new(alloc);
     for (index, item) in items.iter().enumerate() {
         add(&mut found, index, Thread::read(item))?;
@@ -58,7 +58,7 @@ pub fn threads(alloc: Global, body: &Value) -> Result<Vec<Thread<'_>>, ViewFault
 fn stack_frames(alloc: Global, body: &Value) -> Result<Vec<StackFrame<'_>>, ViewFault>
     ensures { Gives (λ found. map stack_frame_parts found.items) result (stack_frames_in (view body.now)) }
 {
-    let items = at::required_items(body, BodyKey::StackFrames)?;
+    let items = at(body, BodyKey::StackFrames).required_items()?;
     let mut found = Vec::new(alloc);
     for (index, item) in items.iter().enumerate() {
         add(&mut found, index, StackFrame::read(item))?;
@@ -72,7 +72,7 @@ pub fn stack_trace(alloc: Global, body: &Value) -> Result<StackTrace<'_>, ViewFa
     ensures { Gives stack_trace_parts result (stack_trace_in (view body.now)) }
 {
     let stack_frames = stack_frames(alloc, body)?;
-    let total_frames = at::optional_whole(body, BodyKey::TotalFrames)?;
+    let total_frames = at(body, BodyKey::TotalFrames).optional_whole()?;
     Ok(StackTrace {
         stack_frames,
         total_frames,
@@ -84,7 +84,7 @@ pub fn stack_trace(alloc: Global, body: &Value) -> Result<StackTrace<'_>, ViewFa
 pub fn scopes(alloc: Global, body: &Value) -> Result<Vec<Scope<'_>>, ViewFault>
     ensures { Gives (λ found. map scope_parts found.items) result (scopes_in (view body.now)) }
 {
-    let items = at::required_items(body, BodyKey::Scopes)?;
+    let items = at(body, BodyKey::Scopes).required_items()?;
     let mut found = Vec::new(alloc);
     for (index, item) in items.iter().enumerate() {
         add(&mut found, index, Scope::read(item))?;
@@ -97,7 +97,7 @@ pub fn scopes(alloc: Global, body: &Value) -> Result<Vec<Scope<'_>>, ViewFault>
 pub fn variables(alloc: Global, body: &Value) -> Result<Vec<Variable<'_>>, ViewFault>
     ensures { Gives (λ found. map variable_parts found.items) result (variables_in (view body.now)) }
 {
-    let items = at::required_items(body, BodyKey::Variables)?;
+    let items = at(body, BodyKey::Variables).required_items()?;
     let mut found = Vec::new(alloc);
     for (index, item) in items.iter().enumerate() {
         add(&mut found, index, Variable::read(item))?;
@@ -110,7 +110,7 @@ pub fn variables(alloc: Global, body: &Value) -> Result<Vec<Variable<'_>>, ViewF
 pub fn breakpoints(alloc: Global, body: &Value) -> Result<Vec<Breakpoint<'_>>, ViewFault>
     ensures { Gives (λ found. map breakpoint_parts found.items) result (breakpoints_in (view body.now)) }
 {
-    let items = at::required_items(body, BodyKey::Breakpoints)?;
+    let items = at(body, BodyKey::Breakpoints).required_items()?;
     let mut found = Vec::new(alloc);
     for (index, item) in items.iter().enumerate() {
         add(&mut found, index, Breakpoint::read(item))?;
@@ -123,7 +123,7 @@ pub fn breakpoints(alloc: Global, body: &Value) -> Result<Vec<Breakpoint<'_>>, V
 pub fn loaded_sources(alloc: Global, body: &Value) -> Result<Vec<Source<'_>>, ViewFault>
     ensures { Gives (λ found. map source_parts found.items) result (sources_in (view body.now)) }
 {
-    let items = at::required_items(body, BodyKey::Sources)?;
+    let items = at(body, BodyKey::Sources).required_items()?;
     let mut found = Vec::new(alloc);
     for (index, item) in items.iter().enumerate() {
         add(&mut found, index, Source::read(item))?;
@@ -142,12 +142,12 @@ pub fn evaluate(body: &Value) -> Result<Evaluation<'_>, ViewFault>
 pub fn set_variable(body: &Value) -> Result<&str, ViewFault>
     ensures { ok_map (λ value. value.now) result ≡ value_in (view body.now) }
 {
-    Ok(at::required_text(body, BodyKey::Value)?)
+    Ok(at(body, BodyKey::Value).required_text()?)
 }
 
 /// The text in the body of a response to `source`. It takes no memory.
 pub fn source(body: &Value) -> Result<&str, ViewFault>
     ensures { ok_map (λ content. content.now) result ≡ content_in (view body.now) }
 {
-    Ok(at::required_text(body, BodyKey::Content)?)
+    Ok(at(body, BodyKey::Content).required_text()?)
 }

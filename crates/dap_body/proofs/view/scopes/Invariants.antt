@@ -1,6 +1,6 @@
 use Rattle.std.proofs.Common.{◌≡◌, ◌++◌, drop, map}
 use Rattle.serde_json.specs.View.{items_view}
-use Rattle.dap_body.specs.At.{ok_map}
+use Rattle.dap_json.specs.Property.{ok_map}
 use Rattle.dap_body.specs.View.{each}
 use Rattle.dap_body.specs.Elements.{scope_of}
 use Rattle.dap_body.specs.Lent.{scope_parts}

@@ -1,7 +1,7 @@
 -- Worked examples of numbers in and out of their ranges, each shown by computation.
 use Rattle.std.proofs.Common.{◌≡◌, codes, Float, Some, None, pos, negsuc, refl}
 use Rattle.serde_json.specs.Data.{number, unsigned, negative, float, string}
-use Rattle.dap_command.specs.Numbers.{int_of, number_of, seq_of}
+use Rattle.dap_json.specs.Numbers.{int_of, number_of, seq_of}
 
 greatest_number : (number_of (number (unsigned 2147483647)) ≡ Some 2147483647) × (number_of (number (unsigned 2147483648)) ≡ None)
 greatest_number = (refl, refl)
