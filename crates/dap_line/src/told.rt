@@ -5,7 +5,7 @@ ghost use Rattle.serde_json.specs.View.{view, items_view};
 ghost use Rattle.dap_json.specs.Lent.{lent_data};
 ghost use Rattle.dap_json.specs.Numbers.{number_of};
 ghost use Rattle.dap_line.specs.Told.{Gives, GivesList, Tells, value_at, required_at, optional_at, optional_or, category_of, category_named as category_of_name, variable_of, each_variable, variables_of as variables_of_items, variables_in as variables_told, learned_by as learned_of_key, loaded_in as loaded_of};
-ghost use Rattle.dap_line.specs.Told.{output_in as output_of, stop_in as stop_of, continued_in as continued_of, exit_in as exit_of, learned_in as learned_of, kind_named as kind_of_name, told_in as told_of, happening_of, question_named as question_of_name, asked_in as asked_of, happened_in as happened_of, said_in as said_of};
+ghost use Rattle.dap_line.specs.Told.{output_in as output_of, stop_in as stop_of, continued_in as continued_of, exit_in as exit_of, learned_in as learned_of, kind_named as kind_of_name, kind_of, told_in as told_of, happening_of, question_named as question_of_name, question_of, asked_in as asked_of, happened_in as happened_of, said_in as said_of};
 ghost use Rattle.std.specs.Option.{is_some};
 
 use crate::reading::read_value;
@@ -128,10 +128,11 @@ fn category_named(name: &str) -> Option<Category>
 fn category_in(told: &Value) -> Result<Category, Unread>
     ensures { Gives result (optional_or category_of Category.Console HostKey.Category (view told.now)) }
 {
-    match at(told, HostKey::Category).optional_text()? {
-        None => Ok(Category::Console),
-        Some(name) => Ok(category_named(name).ok_or(HostKey::Category)?),
-    }
+    let Some(value) = at(told, HostKey::Category).found else {
+        return Ok(Category::Console);
+    };
+    let category = value.as_str().and_then(category_named);
+    Ok(category.ok_or(HostKey::Category)?)
 }
 
 /// The value of what is learned, where it has one.
@@ -298,12 +299,21 @@ fn kind_named(name: &str) -> Option<Kind>
     }
 }
 
+fn kind_in(value: &Value) -> Option<Kind>
+    ensures { result ≡ kind_of (view value.now) }
+{
+    value.as_str().and_then(kind_named)
+}
+
 /// What is told, by its kind.
 #[tactic(auto, unfolding(crate::specs::Told::told_in))]
 fn told_in(alloc: Global, told: &mut Value) -> Result<Told, Unread>
     ensures { Gives result (told_of (view told.old)) }
 {
-    let kind = kind_named(at(told, HostKey::Happened).required_text()?).ok_or(HostKey::Happened)?;
+    let kind = at(told, HostKey::Happened)
+        .found
+        .and_then(kind_in)
+        .ok_or(HostKey::Happened)?;
     match kind {
         Kind::Output => output_in(alloc, told),
         Kind::Stopped => stop_in(alloc, told),
@@ -328,12 +338,20 @@ fn question_named(name: &str) -> Option<Question>
     }
 }
 
+fn question_in(value: &Value) -> Option<Question>
+    ensures { result ≡ question_of (view value.now) }
+{
+    value.as_str().and_then(question_named)
+}
+
 #[tactic(auto, unfolding(crate::specs::Told::asked_in))]
 fn asked_in(said: &Value) -> Result<Said, Unread>
     ensures { Gives result (asked_of (view said.now)) }
 {
-    let name = at(said, HostKey::Asked).required_text()?;
-    let _question = question_named(name).ok_or(HostKey::Asked)?;
+    let _question = at(said, HostKey::Asked)
+        .found
+        .and_then(question_in)
+        .ok_or(HostKey::Asked)?;
     let number = at(said, HostKey::Number).required_number()?;
     Ok(Said::Target(number))
 }
