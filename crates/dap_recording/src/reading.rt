@@ -180,10 +180,12 @@ pub(crate) fn short_text(
 ) -> Result<Option<Text>, RecordingFault>
     ensures { Gives result (optional_at (short_text_of most) key (view value.now)) }
 {
-    match at(value, key).optional_text()? {
+    match at(value, key).found {
         None => Ok(None),
-        Some(text) if text.len() <= most => Ok(Some(texts.text(text)?)),
-        Some(_) => Err(bad(key)),
+        Some(found) => match found.as_str() {
+            Some(text) if text.len() <= most => Ok(Some(texts.text(text)?)),
+            _ => Err(bad(key)),
+        },
     }
 }
 
@@ -219,9 +221,12 @@ pub(crate) fn items(value: &Value, key: RecordingKey) -> Result<&[Value], Record
 pub(crate) fn items_if_any(value: &Value, key: RecordingKey) -> Result<&[Value], RecordingFault>
     ensures { GivesItems result (optional_or as_array no_items key (view value.now)) }
 {
-    match at(value, key).found {
-        None => Ok(&[]),
-        Some(_) => items(value, key),
+    let Some(found) = at(value, key).found else {
+        return Ok(&[]);
+    };
+    match found.as_array() {
+        Some(items) => Ok(items),
+        None => Err(bad(key)),
     }
 }
 
