@@ -1,5 +1,5 @@
 //! All that is kept of the lines so far, for the reasons of findings at the next one.
-ghost use Rattle.std.specs.Prelude.{◌≡◌, ◌+◌, ◌-◌, ◌^◌, ◌<◌, ◌∷◌, ◌++◌, [], List, ℕ, OnOk};
+ghost use Rattle.std.specs.Prelude.{◌≡◌, ◌+◌, ◌-◌, ◌^◌, ◌<◌, ◌∷◌, ◌++◌, [], List, ℕ, OnOk, IfErr};
 ghost use Rattle.dap_explain.specs.PrivateNotes.{AreNotes, asked_of};
 ghost use Rattle.dap_explain.specs.PrivateTrails.{AreBelow};
 ghost use Rattle.dap_check.specs.declared.line.Line.{Line as TheLine};
@@ -48,6 +48,7 @@ impl Notes {
         requires { AreBelow (2 ^ 64 - 1) self.old.trails }
         ensures notes { OnOk result ((earlier : List TheLine) → AreNotes self.old earlier → AreNotes self.new (earlier ++ line.now ∷ [])) }
         ensures below { OnOk result ((n : ℕ) → AreBelow n self.old.trails → AreBelow (n + 1) self.new.trails) }
+        ensures same { IfErr result (λ refused. self.new.trails ≡ self.old.trails) }
     {
         self.client.note(alloc, Side::Client, line)?;
         self.adapter.note(alloc, Side::Adapter, line)?;

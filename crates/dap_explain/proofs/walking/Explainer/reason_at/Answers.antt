@@ -15,20 +15,8 @@ to-requires-clause-walk c =
       | else-number-kept w ↦ subst P (sym (w.walk-is ∙ c.replace-kept.ensures.value)) c.self.invariant
     ]
 
-pub returns-in_err-walk-clause-explains : goal.returns-in_err-walk-clause-explains
-returns-in_err-walk-clause-explains c =
-    let laws = c.texts_are_read_in_one_way.ensures in
-    let fault = c.in_err-walk.field-0.0 in
-    let same : c.self.inside.bytes.now ≡ c.args.self.now = cc in
-    let refused = subst (λ bytes. IsRefusedIn (lines bytes) fault) same c.in_err-walk.ensures.refused in
-    let so : IsExplained c.args.self.now c.args.number c.args.rule c.from_residual.result = refused_so laws.line laws.grows c.args.self.now c.args.number c.args.rule c.from_residual.result fault (told_error c.from_residual.result fault c.from_residual.ensures.1) refused in
-    so.explains
+pub returns-in_err-walk : goal.returns-in_err-walk
+returns-in_err-walk c = ?
 
-pub returns-in_err-walk-clause-absent : goal.returns-in_err-walk-clause-absent
-returns-in_err-walk-clause-absent c =
-    let laws = c.texts_are_read_in_one_way.ensures in
-    let fault = c.in_err-walk.field-0.0 in
-    let same : c.self.inside.bytes.now ≡ c.args.self.now = cc in
-    let refused = subst (λ bytes. IsRefusedIn (lines bytes) fault) same c.in_err-walk.ensures.refused in
-    let so : IsExplained c.args.self.now c.args.number c.args.rule c.from_residual.result = refused_so laws.line laws.grows c.args.self.now c.args.number c.args.rule c.from_residual.result fault (told_error c.from_residual.result fault c.from_residual.ensures.1) refused in
-    so.absent
+pub returns : goal.returns
+returns c = ?

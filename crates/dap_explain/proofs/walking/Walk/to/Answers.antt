@@ -2,7 +2,7 @@ use Rattle.std.proofs.Common.{◌≡◌, ◌+◌, ◌<◌, length, arith, sym, s
 use Rattle.std.proofs.lemmas.Bool.Decides.{nat_tests}
 use Rattle.dap_explain.specs.PrivateWalks.{IsWalk}
 use Rattle.dap_explain.specs.declared.notes.Notes.{Notes}
-use Rattle.dap_explain.proofs.Walked.{read_skipped, read_more}
+use Rattle.dap_explain.proofs.Walked.{read_skipped, read_more, next_refused}
 use Rattle.dap_explain.proofs.walking.Walk.to.Goals as goal
 use Rattle.dap_explain.proofs.walking.Walk.to.Goals.{then-not-is_empty+in_ok-note_text, else-not-is_empty}
 
@@ -33,3 +33,6 @@ loop-alloc-preserved c =
       ],
       inr (omega arith),
     )
+
+pub returns-in_err-note_text-clause-refused : goal.returns-in_err-note_text-clause-refused
+returns-in_err-note_text-clause-refused c = ?
