@@ -50,20 +50,20 @@ impl ExplainedChecker {
         ensures refused { IfErr result (λ fault. Refuses (noted_by self.old + 1) text.now fault × (0 < length text.now)) }
         ensures kept { IfErr result (λ fault. fault ≢ CheckFault.OutOfMemory → (mode : CheckMode) (texts : List (List ℕ)) (lines : List TheLine) → HasNoted mode texts lines self.old → HasNoted mode texts lines self.new) }
     {
-        let Some(found) = self.checker.line(alloc, text)? else {
-            return Ok(None);
-        };
-        if !self.explains {
-            return Ok(Some(LineTold {
-                found,
-                reason: None,
-            }));
+        match self.checker.line(alloc, text)? {
+            None => Ok(None),
+            Some(found) => {
+                if !self.explains {
+                    return Ok(Some(LineTold {
+                        found,
+                        reason: None,
+                    }));
+                }
+                let reason = self.notes.explain_found(&found);
+                self.notes.note_found(alloc, &found)?;
+                Ok(Some(LineTold { found, reason }))
+            }
         }
-        let reason = self.notes.explain_found(&found);
-        if let Some(line) = &found.line {
-            self.notes.note(alloc, line)?;
-        }
-        Ok(Some(LineTold { found, reason }))
     }
 
     /// The requests of the lines taken that nothing has answered, in the order of their lines.

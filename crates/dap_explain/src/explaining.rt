@@ -348,14 +348,26 @@ impl Notes {
         }
     }
 
+    /// The same of a line that may not be given.
+    fn explain_given(&self, rule: Rule, line: &Option<Line>) -> Option<Reason>
+        requires { AreBelow (2 ^ 64 - 1) self.now.trails }
+        ensures { (earlier : List TheLine) (real : TheLine) → line.now ≡ Some real → AreNotes self.now earlier → result ≡ reason_of rule earlier real }
+    {
+        match line {
+            None => None,
+            Some(line) => self.explain(rule, line),
+        }
+    }
+
     /// Why the next line breaks the one of the seven rules that was found, where it was read whole.
     pub(crate) fn explain_found(&self, found: &LineFound) -> Option<Reason>
         requires { AreBelow (2 ^ 64 - 1) self.now.trails }
         ensures { (mode : CheckMode) (earlier : List TheLine) (line : TheLine) → mode.whole ≡ true → IsFound mode earlier line found.now → AreNotes self.now earlier → result ≡ reason_in found.now.broken earlier line }
     {
-        match (&found.broken, &found.line) {
-            (Some(Broken::Rule(rule)), Some(line)) => self.explain(*rule, line),
-            _ => None,
+        match &found.broken {
+            None => None,
+            Some(Broken::Body(_)) => None,
+            Some(Broken::Rule(rule)) => self.explain_given(*rule, &found.line),
         }
     }
 }

@@ -1,5 +1,5 @@
 //! The lines of a transcript that break a rule, as they are printed: one loop over a checker.
-ghost use Rattle.std.specs.Prelude.{◌≡◌, ◌⊎◌, ◌+◌, ◌-◌, ◌^◌, ◌<◌, ◌≤◌, ◌∷◌, ◌++◌, ◌×◌, [], List, ℕ, option_map, option_to_list, if◌then◌else◌, is_some, length, take, codes, decimal, OnOk, IfOk, IfErr, string_bytes};
+ghost use Rattle.std.specs.Prelude.{◌≡◌, ◌⊎◌, ◌+◌, ◌-◌, ◌^◌, ◌<◌, ◌≤◌, ◌∷◌, ◌++◌, ◌×◌, [], List, ℕ, Some, option_map, option_to_list, if◌then◌else◌, is_some, length, take, codes, decimal, OnOk, IfOk, IfErr, string_bytes};
 ghost use Rattle.std.specs.Str.Lines.{lines};
 ghost use Rattle.dap_check.specs.Legal.{least_broken};
 ghost use Rattle.dap_check.specs.Transcript.{Refuses, FirstRefused};
@@ -15,7 +15,7 @@ ghost use Rattle.dap_tool.specs.PrivateListed.{mode_of, IsListed, AreAllListed, 
 
 use crate::numbering::Numbers;
 use crate::verdict::CheckOptions;
-use dap_check::{Broken, CheckFault, CheckMode, Rule, split_line};
+use dap_check::{Broken, CheckFault, CheckMode, Line, Rule, split_line};
 use dap_envelope::Kind;
 use dap_explain::{ExplainedChecker, LineTold, Reason, sentence};
 use dap_shape::ShapeFault;
@@ -97,6 +97,25 @@ fn fault_text(
 
 // ---- a line
 
+/// What is printed of a line that breaks rule 8, which is given.
+fn body_text(
+    alloc: Global,
+    explained: bool,
+    number: u64,
+    line: &Option<Line>,
+    fault: &ShapeFault,
+) -> Result<Option<Vec<u8>>, AllocError>
+    ensures { IfOk result (λ text. (real : TheLine) → line.now ≡ Some real → option_to_list (option_map (λ text. text.items) text) ≡ text_of_fault explained number real.message.kind (fault_seen fault.now) ∷ []) }
+{
+    match line {
+        None => Ok(None),
+        Some(line) => {
+            let text = fault_text(alloc, explained, number, &line.message.kind, fault)?;
+            Ok(Some(text))
+        }
+    }
+}
+
 /// What is printed of a line, if it breaks a rule.
 fn text_of_line(
     alloc: Global,
@@ -106,15 +125,15 @@ fn text_of_line(
     ensures { IfOk result (λ text. (mode : TheMode) (earlier : List TheLine) (line : TheLine) → mode.whole ≡ explained → IsTold mode earlier line told.now → option_to_list (option_map (λ text. text.items) text) ≡ text_if explained mode.bodies earlier line (least_broken mode.any_seq earlier line)) }
 {
     let number = told.found.number;
-    match (&told.found.broken, &told.found.line) {
-        (Some(Broken::Rule(rule)), _) => {
-            Ok(Some(rule_text(alloc, number, *rule, told.reason)?))
+    match &told.found.broken {
+        None => Ok(None),
+        Some(Broken::Rule(rule)) => {
+            let text = rule_text(alloc, number, *rule, told.reason)?;
+            Ok(Some(text))
         }
-        (Some(Broken::Body(fault)), Some(line)) => {
-            let kind = &line.message.kind;
-            Ok(Some(fault_text(alloc, explained, number, kind, fault)?))
+        Some(Broken::Body(fault)) => {
+            body_text(alloc, explained, number, &told.found.line, fault)
         }
-        _ => Ok(None),
     }
 }
 
