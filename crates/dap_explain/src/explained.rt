@@ -39,6 +39,13 @@ impl ExplainedChecker {
         }
     }
 
+    /// How many lines it has taken, those without bytes too.
+    pub fn taken(&self) -> u64
+        ensures { result ≡ noted_by self.now }
+    {
+        self.checker.taken()
+    }
+
     /// Takes the text of the next line as [`Checker::line`] does, and says why the line breaks its rule.
     ///
     /// # Errors
