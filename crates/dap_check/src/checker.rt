@@ -107,6 +107,7 @@ impl Checker {
     pub fn unanswered(self, alloc: Global) -> Result<Vec<OpenRequest>, AllocError>
         ensures { IfOk result (λ requests. (mode : CheckMode) (texts : List (List ℕ)) (lines : List TheLine) → HasTaken mode texts lines self → requests.items ≡ open_requests lines) }
     {
-        in_order(alloc, self.seen.pending)
+        let Checker { seen, .. } = self;
+        in_order(alloc, seen.pending)
     }
 }

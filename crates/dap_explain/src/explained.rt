@@ -80,6 +80,7 @@ impl ExplainedChecker {
     pub fn unanswered(self, alloc: Global) -> Result<Vec<OpenRequest>, AllocError>
         ensures { IfOk result (λ requests. (mode : CheckMode) (texts : List (List ℕ)) (lines : List TheLine) → HasNoted mode texts lines self → requests.items ≡ open_requests lines) }
     {
-        self.checker.unanswered(alloc)
+        let ExplainedChecker { checker, .. } = self;
+        checker.unanswered(alloc)
     }
 }
