@@ -3,4 +3,5 @@ mod CommandExamples
 mod GivenExamples
 mod KeyExamples
 mod NumbersExamples
+mod ObjectsExamples
 pub mod GatheredLemmas
