@@ -2,4 +2,5 @@ mod CapabilitiesExamples
 mod CommandExamples
 mod GivenExamples
 mod KeyExamples
+mod ObjectsExamples
 pub mod GatheredLemmas
