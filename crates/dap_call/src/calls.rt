@@ -149,7 +149,9 @@ fn initialize(alloc: Global, given: Option<&Value>) -> Result<Call, CallFault>
     let lines_start_at_1 = arguments.at(Key::LinesStartAt1).flag_or(true)?;
     let columns_start_at_1 = arguments.at(Key::ColumnsStartAt1).flag_or(true)?;
     let supports_variable_paging = arguments.at(Key::SupportsVariablePaging).flag_or(false)?;
-    let supports_run_in_terminal_request = arguments.at(Key::SupportsRunInTerminalRequest).flag_or(false)?;
+    let supports_run_in_terminal_request = arguments
+        .at(Key::SupportsRunInTerminalRequest)
+        .flag_or(false)?;
     Ok(Call::Initialize(Initialize {
         adapter_id,
         lines_start_at_1,
