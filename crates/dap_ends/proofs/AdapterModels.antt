@@ -4,7 +4,7 @@ use Rattle.std.specs.Prelude.{◌==◌, ◌&&◌, if◌then◌else◌, ◌⊎◌
 use Rattle.std.specs.List.{list_any}
 use Rattle.std.proofs.lemmas.List.{append-nil}
 use Rattle.std.proofs.lemmas.List.Elements.{filter-append}
-use Rattle.dap_ends.specs.Messages.{Command, Initialize, Launch, ConfigurationDone, Disconnect, Terminate, Cancel, Setter, Lookup, Resume, Pause, Inspect, Unserved, Ask, Response, code, is_disconnect, has_seq, one_if, count, answered_in, NoRequests, answer_each}
+use Rattle.dap_ends.specs.Messages.{Command, Initialize, Launch, ConfigurationDone, Disconnect, Terminate, Restart, Cancel, Setter, Lookup, Resume, Pause, Inspect, Unserved, Ask, Response, code, is_disconnect, has_seq, one_if, count, answered_in, NoRequests, answer_each}
 use Rattle.dap_ends.specs.AdapterModel.{AdapterPhase, AdapterFresh, AdapterReady, AdapterConfigured, AdapterParked, AdapterAsked, AdapterRunning, AdapterStopped, AdapterExited, AdapterEnded, AdapterModel, Kept, Made, Answer, Fails, Succeeds, Tries, Parks, Starts_parked, Leaves, Happening, Stops, Continues, Exits, is_ended, is_parked_phase, asks, oldest, but_oldest, park_oldest, parked_of, unparked_of, is_named, requests_named, requests_not_named, answer_of, phase_after, events_after, phase_after_start, handled_as, after_turn, adapter_model_turns, asks_terminal_as, after_asking_turn, ends_wait, keeps, cancels, takes_request, phase_after_happening, events_after_happening, adapter_model_polls}
 use Rattle.dap_ends.proofs.Counts.{count-append, answered_in-append, answered-each, answered-events, NoRequests-append, NoRequests-each, NoRequests-events}
 
@@ -130,7 +130,9 @@ leaves-code _ Pause e = cc
 leaves-code AdapterFresh Inspect e = cc
 leaves-code _ Inspect e = cc
 leaves-code AdapterFresh Unserved e = cc
+leaves-code AdapterFresh Restart e = cc
 leaves-code _ Unserved e = cc
+leaves-code _ Restart e = cc
 
 parks-parked : (c : Command) → Parks ≡ answer_of AdapterParked c → is_parked_phase AdapterParked ≡ false
 parks-parked Launch e = cc

@@ -2,7 +2,7 @@
 use Rattle.std.proofs.Common.{◌≡◌, ℕ, ◌+◌, ◌<◌, ◌≤◌, List, [], ◌∷◌, ◌++◌, Bool, true, false, refl, sym, ap, ◌∙◌, subst, arith, length, inl, inr, Option, Some, None}
 use Rattle.std.specs.Prelude.{◌⊎◌, ◌==◌, ◌&&◌, if◌then◌else◌, nat_lt}
 use Rattle.std.specs.List.{list_any}
-use Rattle.dap_ends.specs.Messages.{Command, Initialize, Disconnect, Terminate, Resume, Ask, Kind, StoppedEvent, ContinuedEvent, ExitedEvent, TerminatedEvent, Message, Request, Response, Event, one_if, code, count, has_seq, is_same, requests_in, answered_in, AllRequests, NoRequests, answer_each, events_of}
+use Rattle.dap_ends.specs.Messages.{Command, Initialize, Disconnect, Terminate, Restart, Resume, Ask, Kind, StoppedEvent, ContinuedEvent, ExitedEvent, TerminatedEvent, Message, Request, Response, Event, one_if, code, count, has_seq, is_same, requests_in, answered_in, AllRequests, NoRequests, answer_each, events_of}
 use Rattle.dap_ends.specs.AdapterModel.{AdapterModel, Made, Kept, Happening, asks, oldest, but_oldest, parked_of, unparked_of, answer_of, handled_as, after_turn, adapter_model_takes, adapter_model_polls, after_asking_turn, ends_wait, cancels, keeps, takes_request, phase_after_happening, events_after_happening, is_ended as has_left, AdapterPhase, AdapterFresh, AdapterReady, AdapterConfigured, AdapterParked, AdapterAsked, AdapterRunning, AdapterStopped, AdapterExited, AdapterEnded}
 use Rattle.dap_ends.specs.ClientModel.{ClientModel, Phase, Fresh, Initializing, Configuring, Running, Stopped, Resuming, Exited, Ended, allows, phase_sent, may_send, next_ask, after_sending, answered_phase, event_phase, takes_response, client_model_takes}
 use Rattle.dap_ends.specs.World.{World, Step, Send, DeliverUp, Turn, Poll, DeliverDown, AskTerminal, EndWait, UseNumber, start, after_adapter, comes_up, comes_down, happens, run, Agree}
@@ -265,6 +265,7 @@ late-sent : (p : Phase) (c : Command) → is_before p ≡ false → is_before (p
 late-sent p Disconnect h = refl
 late-sent Stopped Resume h = refl
 late-sent Stopped Terminate h = refl
+late-sent Stopped Restart h = refl
 late-sent Stopped _ h = refl
 late-sent Configuring _ h = refl
 late-sent Running _ h = refl
