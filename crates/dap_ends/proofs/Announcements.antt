@@ -2,11 +2,10 @@
 use Rattle.std.proofs.Common.{filter, ◌≡◌, ℕ, ◌+◌, ◌<◌, ◌≤◌, List, [], ◌∷◌, ◌++◌, Bool, true, false, not, refl, sym, ap, ◌∙◌, subst, arith, length, inl, inr, Option, Some, None}
 use Rattle.std.specs.Prelude.{◌⊎◌, ◌==◌, ◌&&◌, if◌then◌else◌, nat_lt}
 use Rattle.std.specs.List.{list_any}
-use Rattle.std.specs.Set.{distinct_count}
 use Rattle.dap_ends.specs.Messages.{Command, Initialize, Launch, ConfigurationDone, Disconnect, Terminate, Cancel, Setter, Lookup, Resume, Pause, Inspect, Unserved, Ask, Message, Request, Response, Event, one_if, code, count, has_seq, requests_in, answered_in}
 use Rattle.dap_ends.specs.AdapterModel.{AdapterModel, Made, Kept, Answer, Fails, Succeeds, Tries, Parks, Starts_parked, Leaves, Happening, Stops, Continues, Exits, RequestAfterEnd, RepeatedSeq, asks, oldest, but_oldest, parked_of, is_named, requests_named, answer_of, phase_after, phase_after_start, handled_as, after_turn, fails_with, keeps, cancels, takes_request, is_ended, phase_after_happening, would_start, asks_terminal_as, after_asking_turn, ends_wait, AdapterPhase, AdapterFresh, AdapterReady, AdapterConfigured, AdapterParked, AdapterAsked, AdapterRunning, AdapterStopped, AdapterExited, AdapterEnded}
 use Rattle.dap_ends.specs.ClientModel.{ClientModel, ReferenceLimit, Phase, Fresh, Initializing, Configuring, Running, Stopped, Resuming, Exited, Ended, allows, may_send, next_ask, client_model_takes, requests_without}
-use Rattle.dap_ends.specs.References.{Ref, inspection_succeeds, all_in, references_carried, same_ref, given_after, plain_world}
+use Rattle.dap_ends.specs.References.{Ref, inspection_succeeds, all_in, references_carried, given_with, given_after, plain_world}
 use Rattle.dap_ends.specs.Standing.{is_initialize}
 use Rattle.dap_ends.specs.Pair.{NumberedNote, Pair, PairStep, PairSend, PairAnswer, PairDeliverUp, PairTurn, PairPoll, PairDeliverDown, pair_start, is_terminal_ask, has_fault, request_with_seq, sets_variable, unless_sets_variable, with_fault, announced_after_sending, pair_after_sending, pair_sends, replies, pair_answers, pair_after_adapter, pair_takes_up, pair_comes_up, launch_seq, turn_asks, terminal_after_command, terminal_after_turn, writes_terminal_ask, pair_asks_terminal, pair_after_turn, pair_eyes, pair_takes_down, pair_comes_down, pair_happens, pair_run, request_in, requests_up, client_world, client_world_with}
 use Rattle.dap_ends.specs.PairLaws.{messages_in, UnansweredByPhase, IsKeptNext, KeepsNext}
@@ -330,8 +329,8 @@ report-announces false w x refs ms g = announces-less w (record w { down = ms; s
 takes_down-announces : (n r : ℕ) (w : Pair) (m : NumberedNote) (x : Message) (ms : List NumberedNote) → m.note.message ≡ x → w.down ≡ m ∷ ms → Owns w → Announces w → Announces (pair_takes_down n r (record w { down = ms }) x m.note.refs)
 takes_down-announces n r w m (Request a q) ms e u o g =
     rw (request-taken n (record w { down = ms }) a (new-next w m (Request a q) ms e u o)) (request-announces (is_terminal_ask a && (w.announced && nat_lt (length w.incoming) n)) w a ms g)
-takes_down-announces n r w m (Response a ok) ms e u o g = report-announces (nat_lt r (distinct_count same_ref (given_after (pair_eyes w) (Response a ok) m.note.refs))) w (Response a ok) m.note.refs ms g
-takes_down-announces n r w m (Event k) ms e u o g = report-announces (nat_lt r (distinct_count same_ref (given_after (pair_eyes w) (Event k) m.note.refs))) w (Event k) m.note.refs ms g
+takes_down-announces n r w m (Response a ok) ms e u o g = report-announces (nat_lt r (length (given_with (pair_eyes w) (Response a ok) m.note.refs))) w (Response a ok) m.note.refs ms g
+takes_down-announces n r w m (Event k) ms e u o g = report-announces (nat_lt r (length (given_with (pair_eyes w) (Event k) m.note.refs))) w (Event k) m.note.refs ms g
 
 down-announces : (n r : ℕ) (w : Pair) (down : List NumberedNote) → w.down ≡ down → Owns w → Announces w → Announces (pair_comes_down n r w down)
 down-announces n r w [] u o g = g

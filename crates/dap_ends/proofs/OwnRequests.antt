@@ -2,12 +2,11 @@
 use Rattle.std.proofs.Common.{◌≡◌, ℕ, ◌+◌, ◌<◌, ◌≤◌, List, [], ◌∷◌, ◌++◌, Bool, true, false, not, refl, sym, ap, ◌∙◌, subst, arith, length, Option, Some, None}
 use Rattle.std.specs.Prelude.{◌==◌, ◌&&◌, if◌then◌else◌, nat_lt}
 use Rattle.std.specs.List.{list_any}
-use Rattle.std.specs.Set.{distinct_count}
 use Rattle.std.proofs.lemmas.List.{append-nil}
 use Rattle.dap_ends.specs.Messages.{Command, Initialize, Launch, ConfigurationDone, Disconnect, Terminate, Resume, Ask, Message, Request, Response, Event, one_if, code, count, has_seq, is_same, requests_in, answered_in, request_of, response_of, NoRequests}
 use Rattle.dap_ends.specs.AdapterModel.{AdapterModel, Made, Answer, Fails, Succeeds, Tries, Parks, Starts_parked, Leaves, Happening, Stops, Continues, Exits, asks, oldest, answer_of, phase_after, phase_after_start, handled_as, after_turn, adapter_model_turns, adapter_model_takes, adapter_model_polls, takes_request, cancels, keeps, phase_after_happening, would_start, asks_terminal_as, after_asking_turn, ends_wait, fails_with, is_ended, RequestAfterEnd, RepeatedSeq, parked_of, AdapterPhase, AdapterFresh, AdapterReady, AdapterConfigured, AdapterParked, AdapterAsked, AdapterRunning, AdapterStopped, AdapterExited, AdapterEnded}
 use Rattle.dap_ends.specs.ClientModel.{ReferenceLimit, client_model_takes, may_send, requests_without}
-use Rattle.dap_ends.specs.References.{Ref, Table, inspection_succeeds, all_in, references_carried, same_ref, given_after, table_after, table_polled}
+use Rattle.dap_ends.specs.References.{Ref, Table, inspection_succeeds, all_in, references_carried, given_with, given_after, table_after, table_polled}
 use Rattle.dap_ends.specs.Pair.{NumberedNote, Pair, PairStep, PairSend, PairAnswer, PairDeliverUp, PairTurn, PairPoll, PairDeliverDown, terminal_ask, is_terminal_ask, numbered_notes, has_fault, request_with_seq, sets_variable, unless_sets_variable, with_fault, pair_after_sending, replies, pair_answers, pair_after_adapter, pair_takes_up, pair_comes_up, launch_seq, turn_asks, terminal_after_turn, writes_terminal_ask, pair_asks_terminal, pair_after_turn, pair_eyes, pair_takes_down, pair_comes_down, pair_happens}
 use Rattle.dap_ends.specs.PairLaws.{messages_in, OwnInOnePlace, UnansweredByPhase}
 use Rattle.dap_ends.proofs.Counts.{names-self, count-append, requests_in-append, answered_in-append, count-all, any-counted, none-counted, eqb-self, eqb-same, taken-out, and-left}
@@ -334,8 +333,8 @@ report-owns false w m x ms e n u g = record { place = λ p. down-place w m x ms 
 takes_down-owns : (n r : ℕ) (w : Pair) (m : NumberedNote) (x : Message) (ms : List NumberedNote) → m.note.message ≡ x → w.down ≡ m ∷ ms → Owns w → Owns (pair_takes_down n r (record w { down = ms }) x m.note.refs)
 takes_down-owns n r w m (Request a q) ms e u g =
     rw (request-taken n (record w { down = ms }) a (new-next w m (Request a q) ms e u g)) (request-owns (is_terminal_ask a && (w.announced && nat_lt (length w.incoming) n)) w m a q ms e u g)
-takes_down-owns n r w m (Response a ok) ms e u g = report-owns (nat_lt r (distinct_count same_ref (given_after (pair_eyes w) (Response a ok) m.note.refs))) w m (Response a ok) ms e refl u g
-takes_down-owns n r w m (Event k) ms e u g = report-owns (nat_lt r (distinct_count same_ref (given_after (pair_eyes w) (Event k) m.note.refs))) w m (Event k) ms e refl u g
+takes_down-owns n r w m (Response a ok) ms e u g = report-owns (nat_lt r (length (given_with (pair_eyes w) (Response a ok) m.note.refs))) w m (Response a ok) ms e refl u g
+takes_down-owns n r w m (Event k) ms e u g = report-owns (nat_lt r (length (given_with (pair_eyes w) (Event k) m.note.refs))) w m (Event k) ms e refl u g
 
 down-owns : (n r : ℕ) (w : Pair) (down : List NumberedNote) → w.down ≡ down → Owns w → Owns (pair_comes_down n r w down)
 down-owns n r w [] u g = g

@@ -1,14 +1,13 @@
 -- Each schedule of the pair is followed by one of the model without the adapter's requests and without references.
 use Rattle.std.proofs.Common.{◌≡◌, ℕ, ◌≤◌, List, [], ◌∷◌, ◌++◌, Bool, true, false, refl, sym, ap, ◌∙◌, subst, arith, length, inl, inr, Option, Some, None}
 use Rattle.std.specs.Prelude.{◌⊎◌, ◌&&◌, if◌then◌else◌, nat_lt}
-use Rattle.std.specs.Set.{distinct_count}
 use Rattle.std.proofs.lemmas.List.{append-nil}
 use Rattle.std.proofs.lemmas.Bool.Decides.{nat_tests}
 use Rattle.dap_ends.specs.Messages.{Ask, Message, Request, Response, Event}
 use Rattle.dap_ends.specs.AdapterModel.{oldest}
 use Rattle.dap_ends.specs.ClientModel.{ClientModel, SeatFault, ReferenceLimit, client_model_start, client_model_takes}
 use Rattle.dap_ends.specs.World.{Step, DeliverDown as PlainDown}
-use Rattle.dap_ends.specs.References.{Ref, Note, RefWorld, RefStep, RefDeliverDown, RefUseNumber, plain_world, messages, same_ref, given_after, ref_happens, ref_run}
+use Rattle.dap_ends.specs.References.{Ref, Note, RefWorld, RefStep, RefDeliverDown, RefUseNumber, plain_world, messages, given_with, given_after, ref_happens, ref_run}
 use Rattle.dap_ends.specs.Laws.{KeepsLimit}
 use Rattle.dap_ends.specs.Transcript.{WorldWithTranscript, transcript_start, transcript_run, transcript_step}
 use Rattle.dap_ends.specs.Pair.{NumberedNote, Pair, PairStep, pair_start, pair_happens, pair_comes_down, pair_takes_down, pair_eyes, pair_takes_report, with_fault, has_fault, is_terminal_ask, request_with_seq, turn_asks, sets_variable, reports_down, client_dialogue, client_world, client_world_with, PairSend, PairAnswer, PairDeliverUp, PairTurn, PairPoll, PairDeliverDown}
@@ -105,10 +104,10 @@ within : (r c : ℕ) → nat_lt r c ≡ false → c ≤ r
 within r c e = grind (arith, nat_tests)
 
 -- the client takes an answer or an event
-limit-cases : (b : Bool) (n r : ℕ) (w : Pair) (m : NumberedNote) (x : Message) (ms : List NumberedNote) → reports_down (m ∷ ms) ≡ record { message = x; refs = m.note.refs } ∷ reports_down ms → nat_lt r (distinct_count same_ref (given_after (pair_eyes w) x m.note.refs)) ≡ b → w.down ≡ m ∷ ms → Follows n r w → w.seat.fault ≡ None → (v : Pair) → v ≡ pair_takes_report r (record w { down = ms }) (record { message = x; refs = m.note.refs }) → client_world v ≡ ref_run n r (RefDeliverDown ∷ []) (client_world w) → Owns v → Follows n r v
+limit-cases : (b : Bool) (n r : ℕ) (w : Pair) (m : NumberedNote) (x : Message) (ms : List NumberedNote) → reports_down (m ∷ ms) ≡ record { message = x; refs = m.note.refs } ∷ reports_down ms → nat_lt r (length (given_with (pair_eyes w) x m.note.refs)) ≡ b → w.down ≡ m ∷ ms → Follows n r w → w.seat.fault ≡ None → (v : Pair) → v ≡ pair_takes_report r (record w { down = ms }) (record { message = x; refs = m.note.refs }) → client_world v ≡ ref_run n r (RefDeliverDown ∷ []) (client_world w) → Owns v → Follows n r v
 limit-cases false n r w m x ms t e u f z v h b o =
     client-follows n r w v (RefDeliverDown ∷ []) f z b
-    (subst (λ (ns : List Note). KeepsLimit r (client_world w) ns) (sym (ap reports_down u ∙ t)) (within r (distinct_count same_ref (given_after (pair_eyes w) x m.note.refs)) e), tt) o
+    (subst (λ (ns : List Note). KeepsLimit r (client_world w) ns) (sym (ap reports_down u ∙ t)) (within r (length (given_with (pair_eyes w) x m.note.refs)) e), tt) o
 limit-cases true n r w m x ms t e u f z v h b o =
     let s = client_model_takes w.seat x in
     let shut : v ≡ with_fault (record w { down = ms }) ReferenceLimit = h ∙ rw e refl in

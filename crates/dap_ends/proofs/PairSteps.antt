@@ -2,13 +2,12 @@
 use Rattle.std.proofs.Common.{◌≡◌, ℕ, List, [], ◌∷◌, ◌++◌, Bool, true, false, refl, ap, ◌∙◌, length, Option, Some, None}
 use Rattle.std.specs.Prelude.{◌&&◌, if◌then◌else◌, nat_lt}
 use Rattle.std.specs.List.{list_any}
-use Rattle.std.specs.Set.{distinct_count}
 use Rattle.std.proofs.lemmas.List.{append-nil}
 use Rattle.dap_ends.specs.Messages.{Command, Ask, Message, Request, Response, Event, has_seq, is_same, NoRequests}
 use Rattle.dap_ends.specs.AdapterModel.{Made, MismatchedResponse, UnmatchedResponse, fails_with, oldest, adapter_model_takes, adapter_model_turns, adapter_model_polls, after_asking_turn, ends_wait}
 use Rattle.dap_ends.specs.ClientModel.{ClientModel, ReferenceLimit, may_send, client_model_takes, requests_without}
 use Rattle.dap_ends.specs.World.{after_using_number}
-use Rattle.dap_ends.specs.References.{Ref, Note, Table, RefWorld, RefStep, RefSend, RefDeliverUp, RefTurn, RefPoll, RefDeliverDown, RefAskTerminal, RefEndWait, RefUseNumber, notes, all_in, references_carried, inspection_succeeds, same_ref, given_after, table_after, table_polled, ref_made, ref_sent, ref_run}
+use Rattle.dap_ends.specs.References.{Ref, Note, Table, RefWorld, RefStep, RefSend, RefDeliverUp, RefTurn, RefPoll, RefDeliverDown, RefAskTerminal, RefEndWait, RefUseNumber, notes, all_in, references_carried, inspection_succeeds, given_with, given_after, table_after, table_polled, ref_made, ref_sent, ref_run}
 use Rattle.dap_ends.specs.Pair.{NumberedNote, Pair, PairStep, numbered_notes, notes_written_by, has_fault, is_terminal_ask, request_with_seq, sets_variable, unless_sets_variable, with_fault, pair_after_sending, replies, pair_answers, pair_after_adapter, pair_takes_response, pair_takes_up, pair_comes_up, turn_asks, terminal_after_turn, pair_fails, writes_terminal_ask, pair_asks_terminal, pair_after_turn, pair_takes_request, pair_takes_down, pair_eyes, pair_comes_down, pair_happens, requests_up, reports_down, client_dialogue, client_world, client_world_with, PairSend, PairAnswer, PairDeliverUp, PairTurn, PairPoll, PairDeliverDown}
 use Rattle.dap_ends.proofs.PairNotes.{requests_up-append, reports_down-append, client_dialogue-append, reports_down-numbered, client_dialogue-numbered, quiet-turns, quiet-asks, quiet-ends_wait, quiet-polls, quiet-takes}
 
@@ -200,8 +199,8 @@ report-client_world false w m = refl
 takes_down-client_world : (n r : ℕ) (w : Pair) (m : NumberedNote) (x : Message) (ms : List NumberedNote) → m.note.message ≡ x → IsNew w.incoming x → client_world (pair_takes_down n r (record w { down = ms }) x m.note.refs) ≡ ref_run n r (echo_takes_down n w x) (record (client_world w) { down = reports_down (m ∷ ms) })
 takes_down-client_world n r w m (Request a q) ms e h =
     rw (e, request-taken n (record w { down = ms }) a h) (request-client_world (is_terminal_ask a && (w.announced && nat_lt (length w.incoming) n)) n r (record w { down = ms }) a)
-takes_down-client_world n r w m (Response a ok) ms e h = rw e (report-client_world (nat_lt r (distinct_count same_ref (given_after (pair_eyes w) (Response a ok) m.note.refs))) (record w { down = ms }) (record { message = Response a ok; refs = m.note.refs }))
-takes_down-client_world n r w m (Event k) ms e h = rw e (report-client_world (nat_lt r (distinct_count same_ref (given_after (pair_eyes w) (Event k) m.note.refs))) (record w { down = ms }) (record { message = Event k; refs = m.note.refs }))
+takes_down-client_world n r w m (Response a ok) ms e h = rw e (report-client_world (nat_lt r (length (given_with (pair_eyes w) (Response a ok) m.note.refs))) (record w { down = ms }) (record { message = Response a ok; refs = m.note.refs }))
+takes_down-client_world n r w m (Event k) ms e h = rw e (report-client_world (nat_lt r (length (given_with (pair_eyes w) (Event k) m.note.refs))) (record w { down = ms }) (record { message = Event k; refs = m.note.refs }))
 
 down-client_world : (n r : ℕ) (w : Pair) (down : List NumberedNote) → NextNew w.incoming down → w.down ≡ down → client_world (pair_comes_down n r w down) ≡ ref_run n r (echo_down n w down) (record (client_world w) { down = reports_down down })
 down-client_world n r w [] h e = ap (λ zs. let u : RefWorld = record (client_world w) { down = reports_down zs } in u) e

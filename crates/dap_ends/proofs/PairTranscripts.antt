@@ -2,12 +2,11 @@
 use Rattle.std.proofs.Common.{◌≡◌, ℕ, ◌+◌, ◌<◌, ◌≤◌, List, [], ◌∷◌, ◌++◌, Bool, true, false, not, refl, sym, ap, ◌∙◌, subst, append_assoc, arith, length, Option, Some, None}
 use Rattle.std.specs.Prelude.{◌&&◌, if◌then◌else◌, nat_lt}
 use Rattle.std.specs.List.{list_any}
-use Rattle.std.specs.Set.{distinct_count}
 use Rattle.std.proofs.lemmas.List.{append-nil}
 use Rattle.dap_ends.specs.Messages.{Ask, Message, Request, Response, Event, one_if, count, has_seq, is_same, requests_in, request_of, NoRequests}
 use Rattle.dap_ends.specs.AdapterModel.{Made, oldest, would_start, after_asking_turn, ends_wait, adapter_model_turns, adapter_model_takes, adapter_model_polls, is_ended as has_left, asks, parked_of}
 use Rattle.dap_ends.specs.ClientModel.{ClientModel, ReferenceLimit, CommandMismatch, Unmatched, answered_phase, client_model_takes, may_send, requests_without}
-use Rattle.dap_ends.specs.References.{Ref, Note, Table, inspection_succeeds, all_in, references_carried, messages, same_ref, given_after, table_after, table_polled}
+use Rattle.dap_ends.specs.References.{Ref, Note, Table, inspection_succeeds, all_in, references_carried, messages, given_with, given_after, table_after, table_polled}
 use Rattle.dap_ends.specs.Transcript.{open_after, AnswersOpen, closed_next, closed_after, NothingAfter}
 use Rattle.dap_ends.specs.Pair.{NumberedNote, WrittenNote, Pair, PairStep, PairSend, PairAnswer, PairDeliverUp, PairTurn, PairPoll, PairDeliverDown, terminal_ask, is_terminal_ask, numbered_notes, notes_written_by, has_fault, request_with_seq, sets_variable, unless_sets_variable, with_fault, pair_after_sending, request_written, reply, replies, pair_answers, pair_after_adapter, pair_takes_up, pair_comes_up, launch_seq, turn_asks, terminal_after_turn, writes_terminal_ask, pair_asks_terminal, pair_after_turn, pair_eyes, pair_takes_down, pair_comes_down, pair_happens, pair_run, pair_start, in_client_dialogue, client_dialogue, adapter_dialogue, unless_client_response, without_client_responses}
 use Rattle.dap_ends.specs.PairLaws.{messages_in, AllNumbered}
@@ -276,8 +275,8 @@ wrote-report false w m x ms e n u = wrote-nothing w _ refl (takes-last w.seat x)
 wrote-takes_down : (n r : ℕ) (w : Pair) (m : NumberedNote) (x : Message) (ms : List NumberedNote) → m.note.message ≡ x → w.down ≡ m ∷ ms → Owns w → Wrote w (pair_takes_down n r (record w { down = ms }) x m.note.refs)
 wrote-takes_down n r w m (Request a q) ms e u g =
     rw (request-taken n (record w { down = ms }) a (new-next w m (Request a q) ms e u g)) (wrote-request (is_terminal_ask a && (w.announced && nat_lt (length w.incoming) n)) w m a q ms e u g)
-wrote-takes_down n r w m (Response a ok) ms e u g = wrote-report (nat_lt r (distinct_count same_ref (given_after (pair_eyes w) (Response a ok) m.note.refs))) w m (Response a ok) ms e refl u
-wrote-takes_down n r w m (Event k) ms e u g = wrote-report (nat_lt r (distinct_count same_ref (given_after (pair_eyes w) (Event k) m.note.refs))) w m (Event k) ms e refl u
+wrote-takes_down n r w m (Response a ok) ms e u g = wrote-report (nat_lt r (length (given_with (pair_eyes w) (Response a ok) m.note.refs))) w m (Response a ok) ms e refl u
+wrote-takes_down n r w m (Event k) ms e u g = wrote-report (nat_lt r (length (given_with (pair_eyes w) (Event k) m.note.refs))) w m (Event k) ms e refl u
 
 wrote-down : (n r : ℕ) (w : Pair) (down : List NumberedNote) → w.down ≡ down → Owns w → Wrote w (pair_comes_down n r w down)
 wrote-down n r w [] u g = wrote-same w

@@ -134,6 +134,8 @@ number-keeps n r w g =
       known = g.known;
       line = g.line;
       plainly = g.plainly;
+      resuming = g.resuming;
+      apart = g.apart;
       uses = g.uses;
       legal = g.legal;
     }

@@ -2,12 +2,11 @@
 -- Specification, "RunInTerminal Request". That a launch asks for one, and when, is this profile's choice.
 use Rattle.std.specs.Prelude.{codes, bytes_eq, ◌≡◌, ℕ, ◌+◌, ◌==◌, ◌&&◌, nat_lt, List, [], ◌∷◌, ◌++◌, length, Bool, true, false, if◌then◌else◌, Option, Some, None}
 use Rattle.std.specs.List.{list_any}
-use Rattle.std.specs.Set.{distinct_count}
 use Rattle.dap_ends.specs.Messages.{Command, Initialize, ConfigurationDone, Unserved, Ask, Message, Request, Response, Event, code, has_seq, is_same}
 use Rattle.dap_ends.specs.AdapterModel.{AdapterModel, Made, Happening, UnmatchedResponse, MismatchedResponse, fails_with, asks, oldest, parked_of, would_start, after_asking_turn, ends_wait, adapter_model_start, adapter_model_takes, adapter_model_turns, adapter_model_polls, AdapterPhase, AdapterFresh}
 use Rattle.dap_ends.specs.ClientModel.{ClientModel, SeatFault, RepeatedRequest, ReferenceLimit, client_model_start, after_sending, may_send, next_ask, client_model_takes, requests_without}
 use Rattle.dap_ends.specs.World.{after_using_number}
-use Rattle.dap_ends.specs.References.{Ref, Note, Table, RefWorld, same_ref, all_in, given_by, given_sent, given_after, references_carried, inspection_succeeds, table_after, table_polled, moves_by_itself, Eyes}
+use Rattle.dap_ends.specs.References.{Ref, Note, Table, RefWorld, all_in, given_by, given_sent, given_with, given_after, references_carried, inspection_succeeds, table_after, table_polled, moves_by_itself, Eyes}
 
 -- a message with its number
 pub record NumberedNote : Type 0 where
@@ -267,7 +266,7 @@ pair_eyes w = record { phase = w.seat.phase; resumer = w.seat.resumer; given = w
 -- a response or an event comes to it; one that would make it know more than r references closes it
 abbrev pub pair_takes_report : ℕ → Pair → Note → Pair
 pair_takes_report r w m =
-    if nat_lt r (distinct_count same_ref (given_after (pair_eyes w) m.message m.refs))
+    if nat_lt r (length (given_with (pair_eyes w) m.message m.refs))
     then with_fault w ReferenceLimit
     else record w { seat = client_model_takes w.seat m.message; given = given_after (pair_eyes w) m.message m.refs }
 

@@ -18,7 +18,8 @@ use Rattle.dap_plan.specs.Plan.{Made, written_by}
 use Rattle.dap_outbox.specs.Draft.{success, failure, Draft, reply, emit, ask, message_of, numbered_messages, requests_in}
 use Rattle.dap_plan.specs.Session.{Session, own_requests}
 use Rattle.dap_plan.specs.SessionState.{SessionState}
-use Rattle.dap_world.specs.Projection.{note_seen, notes_seen, written_seen, adapter_model_of, own_seen, references_seen, table_of, ByNumber, pair_of}
+use Rattle.dap_client.specs.Projection.{references_seen}
+use Rattle.dap_world.specs.Projection.{note_seen, notes_seen, written_seen, adapter_model_of, own_seen, table_of, ByNumber, pair_of}
 use Rattle.dap_world.specs.World.{World, Said, said_by, adapter_said}
 use Rattle.dap_world.proofs.Answered.{IsHarmless, AllHarmless, AllGive}
 use Rattle.dap_world.proofs.KeptSeen.{told, all_told}
@@ -134,16 +135,16 @@ told-length [] = refl
 told-length (d ∷ ds) = let ih = told-length ds in omega arith
 
 -- is what the pair's makes, with this table and these references given
-pub made-pair : {D : Type 0} (w : World D) (known : List Ref) (by : ByNumber) (ups : List Message) (made : Made) (v : D) (x : SmallMade) (named : List Ref) (table : Table) (terminal : Bool) (qs : List Ask)
+pub made-pair : {D : Type 0} (w : World D) (by : ByNumber) (ups : List Message) (made : Made) (v : D) (x : SmallMade) (named : List Ref) (table : Table) (terminal : Bool) (qs : List Ask)
     → adapter_model_of made.after ≡ x.desk → all_told made.drafts ≡ x.outs → AllHarmless made.drafts → AllGive named made.drafts → table_of made.after.references ≡ table → made.after.used ≡ w.adapter.session.used + length made.drafts
     → terminal ≡ made.after.options.supports_run_in_terminal_request → qs ≡ own_seen (own_requests made.after.asked)
-    → pair_after_adapter (record (pair_of w known by) { up = notes_seen ups; terminal = terminal; asked = qs }) x named table ≡ pair_of (world_made w ups made v) known by
-made-pair w known by ups made v x named table terminal qs e f h given r used t q =
+    → pair_after_adapter (record (pair_of w by) { up = notes_seen ups; terminal = terminal; asked = qs }) x named table ≡ pair_of (world_made w ups made v) by
+made-pair w by ups made v x named table terminal qs e f h given r used t q =
     let s : Session = w.adapter.session in
     let many = told-length made.drafts in
     let outs : numbered_notes s.used named x.outs ≡ notes_seen (numbered_messages s.used made.drafts) = ap (numbered_notes s.used named) (sym f) ∙ sym (numbered-seen s.used made.drafts named h given) in
     let count : s.used + length x.outs ≡ made.after.used = let same = ap length f in omega (arith, same, many, used) in
-    same-adapter (record (pair_of w known by) { up = notes_seen ups }) x.desk (adapter_model_of made.after) table (table_of made.after.references) terminal made.after.options.supports_run_in_terminal_request (s.used + length x.outs) made.after.used qs (own_seen (own_requests made.after.asked))
+    same-adapter (record (pair_of w by) { up = notes_seen ups }) x.desk (adapter_model_of made.after) table (table_of made.after.references) terminal made.after.options.supports_run_in_terminal_request (s.used + length x.outs) made.after.used qs (own_seen (own_requests made.after.asked))
     (notes_seen w.down ++ numbered_notes s.used named x.outs) (notes_seen (w.down ++ numbered_messages s.used made.drafts))
     (written_seen w.said ++ notes_written_by false (numbered_notes s.used named x.outs)) (written_seen (w.said ++ said_by Adapter (numbered_messages s.used made.drafts)))
     (sym e) (sym r) t count q

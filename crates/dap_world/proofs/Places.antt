@@ -329,7 +329,7 @@ module _ {D : Type 0} (laws : Laws) (shown : D → Shown) (follows : Goes D) (li
       let m : Message = t.message in
       let told = down-first limits old m t.later t.first st in
       let comes = down-comes limits old m t.later r t.first st in
-      let leaves = kind-leaves m.seq m.kind s made told.0 comes (st.asked, st.restart, st.resumes) t.taken in
+      let leaves = kind-leaves laws m.seq m.kind s made told.0 comes st.client_within t.taken in
       let took = took m.seq m.kind s made told.0 comes t.taken in
       let asked = requests-first IsOwn (request_as m.seq m.kind) (requests_among t.later) (subst (λ (z : List Message). All IsOwn (requests_among z)) t.first g.own_down) in
       let answered = responses-first (IsResponse g.by s.used) (response_as m.kind) (responses_among t.later) (subst (λ (z : List Message). All (IsResponse g.by s.used) (responses_among z)) t.first g.down) in

@@ -33,7 +33,7 @@ use Rattle.dap_world.proofs.Stepping.{Laws, turn-stands, poll-stands, up-stands}
 
 pub record StandsStill {D : Type 0} (shown : D → Shown) (limits : Settings) (debuggee : D) (w : World D) : Type 0 where
   pub stands : Stands limits w
-  pub keeps : KeepsReferences limits.requests limits.references (pair_of w stands.given stands.by)
+  pub keeps : KeepsReferences limits.requests limits.references (pair_of w stands.by)
   pub state : IsStateOf (shown debuggee).state w.adapter.session.phase (shown w.adapter.debuggee).state
 
 -- ---- a poll in which the debuggee doesn't move by itself
@@ -91,9 +91,9 @@ module _ {D : Type 0} (shown : D → Shown) (follows : Goes D) (answers : Answer
 
   -- ---- a step
 
-  keeps-then : (limits : Settings) (old new : World D) (calm : Type 0) (g : Stands limits old) (a : StandsAfter limits old g new calm) → calm → KeepsReferences limits.requests limits.references (pair_of old g.given g.by) → KeepsReferences limits.requests limits.references (pair_of new a.stands.given a.stands.by)
+  keeps-then : (limits : Settings) (old new : World D) (calm : Type 0) (g : Stands limits old) (a : StandsAfter limits old g new calm) → calm → KeepsReferences limits.requests limits.references (pair_of old g.by) → KeepsReferences limits.requests limits.references (pair_of new a.stands.by)
   keeps-then limits old new calm g a c k =
-      subst (λ (p : Pair). KeepsReferences limits.requests limits.references p) a.is (keeps-references-step limits.requests limits.references (pair_of old g.given g.by) a.step (a.still c) k)
+      subst (λ (p : Pair). KeepsReferences limits.requests limits.references p) a.is (keeps-references-step limits.requests limits.references (pair_of old g.by) a.step (a.still c) k)
 
   step-still : Laws → EachStepKeepsState → (limits : Settings) (debuggee : D) (old new : World D) → AreInRange limits → Step shown lasting old new → StandsStill shown limits debuggee old → StandsStill shown limits debuggee new
   step-still laws states limits debuggee old new r (by_sending call t) g =
