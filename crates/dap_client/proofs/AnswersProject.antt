@@ -6,7 +6,7 @@ use Rattle.serde_json.specs.Data.{Data}
 use Rattle.std.specs.List.{list_any}
 use Rattle.dap_ends.specs.Messages.{Ask, has_seq, is_same}
 use Rattle.dap_ends.specs.Messages as small
-use Rattle.dap_ends.specs.ClientModel.{answered_phase, requests_without, client_model_takes}
+use Rattle.dap_ends.specs.ClientModel.{answered_phase, client_model_takes}
 use Rattle.dap_ends.specs.References.{Ref, is_resuming, holds, with_refs, given_with, given_after}
 use Rattle.dap_ends.proofs.Counts.{names-same}
 use Rattle.dap_command.specs.Command.{command_named}
@@ -14,7 +14,7 @@ use Rattle.dap_command.specs.declared.command.Command.{Command}
 use Rattle.dap_command.specs.declared.command.Command.TheVariants as command
 use Rattle.dap_tables.specs.Given.{references_given_by, references_given_in}
 use Rattle.dap_tables.specs.Known.{with_pairs}
-use Rattle.dap_tables.specs.Outstanding.{entry_with, without}
+use Rattle.dap_tables.specs.Outstanding.{entry_with}
 use Rattle.dap_tables.specs.declared.entry.Entry.{Entry}
 use Rattle.dap_tables.specs.declared.reference_kind.ReferenceKind.{ReferenceKind}
 use Rattle.dap_client.specs.declared.change.Change.{Change}
@@ -25,7 +25,7 @@ use Rattle.dap_client.specs.declared.phase.Phase.TheVariants.{Fresh, Stopped, Re
 use Rattle.dap_client.specs.Changes.{Cause, resumed, answered, change_in}
 use Rattle.dap_client.specs.Phases.{is_phase, is_among, phases_in_a_stop}
 use Rattle.dap_client.specs.Projection.{class_of, class_if, is_inspection, ask_of, asks_seen, references_seen, references_given_if, client_model_phase, client_model_of, eyes_of, IsClient, IsTaken, IsRefused}
-use Rattle.dap_client.specs.Seen.{Seen, kept_unless, after_change, cause_of, known_after, after_body, after_response}
+use Rattle.dap_client.specs.Seen.{Seen, kept_unless, after_change, known_after, after_body, after_response}
 use Rattle.dap_client.specs.Session.{Session}
 use Rattle.dap_client.specs.Taking.{Made, made_by_answer, answered_within, takes_answer}
 use Rattle.dap_client.specs.Within.{IsWithin}
@@ -202,7 +202,7 @@ answer-is s q ok name body (Some r) made w e h =
     let long = length-with s q ok name (command_named name) body m.command m.named in
     subst (λ (x : Made). IsTaken s (after_response q ok (command_named name) body s.seen) (small.Response (ask_of q name) ok) (references_seen (references_given_if ok (command_named name) body)) x) is (record {
       after = answer-taken s q ok name (command_named name) body m.command m.named refl m.is_asked;
-      few = omega (arith, few, long);
+      few = subst (λ (n : ℕ). n ≤ s.limits.references) long few;
       silent = refl;
       used = refl;
       seen_is = refl;
@@ -223,7 +223,7 @@ refused-if true s q ok name body r f w e n h =
     let m = matched s q name r w e n in
     let many = past-test known s.limits.references over.0 in
     let long = length-with s q ok name (command_named name) body m.command m.named in
-    inl (over.1, omega (arith, many, long))
+    inl (over.1, subst (λ (n : ℕ). s.limits.references < n) long many)
 refused-if false s q ok name body r f w e n h =
     let same : CommandMismatch q ≡ f = cc in
     let there = is-asked q r s.outstanding e in

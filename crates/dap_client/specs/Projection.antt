@@ -153,42 +153,87 @@ pub record IsClient (s : Session) (client : ClientModel) (given : List Ref) (ann
   pub announced_is : s.seen.announced ≡ announced
   pub incoming_is : asks_seen s.incoming ≡ incoming
 
+abbrev pub class_called : Call → small.Command
+class_called c = class_of (command_of c)
+
+-- a call was sent
+abbrev pub Sends : Session → Call → Session → Type 0
+Sends s c after =
+    IsClient after
+    (after_sending (client_model_of s) (class_called c) (name_of (command_of c)))
+    (given_sent (class_called c) (given_of s))
+    (announced_after_sending (class_called c) (announces_terminals c) s.seen.announced)
+    (asks_seen s.incoming)
+
+-- a response or an event came, with these references
+abbrev pub Hears : Session → small.Message → List Ref → Session → Type 0
+Hears s x refs after =
+    IsClient after
+    (client_model_takes (client_model_of s) x)
+    (given_after (eyes_of s) x refs)
+    s.seen.announced
+    (asks_seen s.incoming)
+
+-- a number was used for what is no request, and these requests of the adapter are kept then
+abbrev pub UsesNumber : Session → List Ask → Session → Type 0
+UsesNumber s incoming after =
+    IsClient after (after_using_number (client_model_of s)) (given_of s) s.seen.announced incoming
+
+abbrev pub response_seen : ℕ → Bool → List ℕ → small.Message
+response_seen q ok name = small.Response (ask_of q name) ok
+
+abbrev pub response_references : Bool → List ℕ → Option Data → List Ref
+response_references ok name body = references_seen (references_given_if ok (command_named name) body)
+
 -- a response was taken: the model takes it too, and knows no more references by it than there is room for
 pub record IsTaken (s : Session) (seen : Seen) (x : small.Message) (refs : List Ref) (made : Made) : Type 0 where
-  pub after : IsClient made.after (client_model_takes (client_model_of s) x) (given_after (eyes_of s) x refs) s.seen.announced (asks_seen s.incoming)
+  pub after : Hears s x refs made.after
   pub few : length (given_with (eyes_of s) x refs) ≤ s.limits.references
   pub silent : made.written ≡ []
   pub used : made.after.used ≡ s.used
   pub seen_is : made.after.seen ≡ seen
 
+abbrev pub model_fault : Session → small.Message → Option model.ClientFault
+model_fault s x = (client_model_takes (client_model_of s) x).fault
+
 -- a response closes the client: the model would know too many references, or has the same fault
 abbrev pub IsRefused : Session → ℕ → small.Message → List Ref → ClientFault → Type 0
 IsRefused s q x refs f =
     ((f ≡ ReferenceLimit) × (s.limits.references < length (given_with (eyes_of s) x refs)))
-    ⊎ (((f ≡ Unmatched q) × ((client_model_takes (client_model_of s) x).fault ≡ Some model.Unmatched))
-    ⊎ ((f ≡ CommandMismatch q) × ((client_model_takes (client_model_of s) x).fault ≡ Some model.CommandMismatch)))
+    ⊎ (((f ≡ Unmatched q) × (model_fault s x ≡ Some model.Unmatched))
+    ⊎ ((f ≡ CommandMismatch q) × (model_fault s x ≡ Some model.CommandMismatch)))
 
 pub record EachStepProjects : Type 0 where
   -- what the phase lets a client send
-  pub allowed : (c : Command) (p : Phase) (ready : Bool) → is_sent_in c p ready ≡ allows (client_model_phase p) ready (class_of c)
+  pub allowed : (c : Command) (p : Phase) (ready : Bool)
+      → is_sent_in c p ready ≡ allows (client_model_phase p) ready (class_of c)
   -- a call that the phase lets it send
-  pub sent : (s : Session) (c : Call) → is_sent_in (command_of c) s.seen.phase s.seen.ready ≡ true
-      → IsClient (after_send c s) (after_sending (client_model_of s) (class_of (command_of c)) (name_of (command_of c))) (given_sent (class_of (command_of c)) (given_of s)) (announced_after_sending (class_of (command_of c)) (announces_terminals c) s.seen.announced) (asks_seen s.incoming)
+  pub sent : (s : Session) (c : Call)
+      → is_sent_in (command_of c) s.seen.phase s.seen.ready ≡ true → Sends s c (after_send c s)
   -- a response that comes, or why it closes the client
-  pub answered : (s : Session) (seq q : ℕ) (ok : Bool) (name : List ℕ) (why : Option (List ℕ)) (body : Option Data) (made : Made) → IsWithin s → takes_as seq (Response q ok name why body) s ≡ Ok made
-      → IsTaken s (after_response q ok (command_named name) body s.seen) (small.Response (ask_of q name) ok) (references_seen (references_given_if ok (command_named name) body)) made
-  pub refused : (s : Session) (seq q : ℕ) (ok : Bool) (name : List ℕ) (why : Option (List ℕ)) (body : Option Data) (f : ClientFault) → IsWithin s → takes_as seq (Response q ok name why body) s ≡ Err f
-      → IsRefused s q (small.Response (ask_of q name) ok) (references_seen (references_given_if ok (command_named name) body)) f
+  pub answered : (s : Session) (seq q : ℕ) (ok : Bool) (name : List ℕ) (why : Option (List ℕ)) (body : Option Data)
+      → (made : Made) → IsWithin s → takes_as seq (Response q ok name why body) s ≡ Ok made
+      → IsTaken s (after_response q ok (command_named name) body s.seen)
+          (response_seen q ok name) (response_references ok name body) made
+  pub refused : (s : Session) (seq q : ℕ) (ok : Bool) (name : List ℕ) (why : Option (List ℕ)) (body : Option Data)
+      → (f : ClientFault) → IsWithin s → takes_as seq (Response q ok name why body) s ≡ Err f
+      → IsRefused s q (response_seen q ok name) (response_references ok name body) f
   -- an event that comes
   pub told : (s : Session) (x : Option Signal) (body : Option Data)
-      → IsClient (record s { seen = after_event x body s.seen }) (client_model_takes (client_model_of s) (small.Event (kind_if x))) (given_after (eyes_of s) (small.Event (kind_if x)) []) s.seen.announced (asks_seen s.incoming)
+      → Hears s (small.Event (kind_if x)) [] (record s { seen = after_event x body s.seen })
   -- a request of the adapter that comes: whether it repeats a number; kept; answered at once; and answered later
   pub repeats : (s : Session) (q : ℕ) → contains_seq q s.incoming ≡ list_any (has_seq q) (asks_seen s.incoming)
-  pub kept : (s : Session) (r : Entry) → IsClient (made_by_keeping r s).after (client_model_of s) (given_of s) s.seen.announced (asks_seen s.incoming ++ entry_ask r ∷ [])
-  pub declined : (s : Session) (q : ℕ) (name : List ℕ) (failure : Failure) → IsClient (made_by_declining q name failure s).after (after_using_number (client_model_of s)) (given_of s) s.seen.announced (asks_seen s.incoming)
-  pub terminal : (s : Session) (q : ℕ) → IsClient (after_terminal_response q s) (after_using_number (client_model_of s)) (given_of s) s.seen.announced (requests_without q (asks_seen s.incoming))
+  pub kept : (s : Session) (r : Entry)
+      → IsClient (made_by_keeping r s).after
+          (client_model_of s) (given_of s) s.seen.announced (asks_seen s.incoming ++ entry_ask r ∷ [])
+  pub declined : (s : Session) (q : ℕ) (name : List ℕ) (failure : Failure)
+      → UsesNumber s (asks_seen s.incoming) (made_by_declining q name failure s).after
+  pub terminal : (s : Session) (q : ℕ)
+      → UsesNumber s (requests_without q (asks_seen s.incoming)) (after_terminal_response q s)
   -- of a call that is not refused no refusal holds
-  pub free : (c : Call) (closed : Bool) (s : Session) → first_of refusals_in_order c closed s ≡ None → (f : SendFault) → holds f c closed s ≡ false
+  pub free : (c : Call) (closed : Bool) (s : Session)
+      → first_of refusals_in_order c closed s ≡ None → (f : SendFault) → holds f c closed s ≡ false
   -- only inspections give references, and only they name some
   pub gives : (c : Command) (body : Data) → is_inspection (class_of c) ≡ false → references_given_by c body ≡ []
-  pub names : (c : Call) → references_carried (class_of (command_of c)) (references_seen (references_used_by c)) ≡ references_seen (references_used_by c)
+  pub names : (c : Call)
+      → references_carried (class_called c) (references_seen (references_used_by c)) ≡ references_seen (references_used_by c)

@@ -15,12 +15,12 @@ pub data Phase : Type 0 where
   Ended : Phase
 
 -- what closes the client
-pub data SeatFault : Type 0 where
-  Unmatched : SeatFault
-  CommandMismatch : SeatFault
-  UnexpectedRequest : SeatFault
-  RepeatedRequest : SeatFault
-  ReferenceLimit : SeatFault
+pub data ClientFault : Type 0 where
+  Unmatched : ClientFault
+  CommandMismatch : ClientFault
+  UnexpectedRequest : ClientFault
+  RepeatedRequest : ClientFault
+  ReferenceLimit : ClientFault
 
 -- `resumer` is the number of the request that made the phase Resuming
 pub record ClientModel : Type 0 where
@@ -29,7 +29,7 @@ pub record ClientModel : Type 0 where
   pub last : ℕ
   pub asked : List Ask
   pub resumer : ℕ
-  pub fault : Option SeatFault
+  pub fault : Option ClientFault
 
 -- a fresh client
 abbrev pub client_model_start : ClientModel

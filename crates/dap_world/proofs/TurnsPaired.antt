@@ -239,7 +239,7 @@ asking-pair n r w by made v t one g =
     ∙ (ap (λ (k : ℕ). numbered_notes s.used [] (all_told t.before) ++ note_asking k ∷ []) next
     ∙ (sym (numbered-asking s.used t.before t.harmless (all-none t.before t.none_given)) ∙ ap (λ (ds : List Draft). notes_seen (numbered_messages s.used ds)) (sym t.drafts_are))) in
     ap (λ (b : Bool). if b then pair_asks_terminal p else pair_after_turn r p true (unless_sets_variable (sets_variable o) []) (unless_sets_variable (sets_variable o) [])) one
-    ∙ same-adapter p x.desk (adapter_model_of made.after) (table_of s.references) (table_of made.after.references) s.options.supports_run_in_terminal_request made.after.options.supports_run_in_terminal_request (s.used + length x.outs + 1) made.after.used
+    ∙ same-adapter p x.adapter (adapter_model_of made.after) (table_of s.references) (table_of made.after.references) s.options.supports_run_in_terminal_request made.after.options.supports_run_in_terminal_request (s.used + length x.outs + 1) made.after.used
     (own_seen (own_requests s.asked) ++ terminal_ask (s.used + length x.outs + 1) ∷ []) (own_seen (own_requests made.after.asked))
     ((notes_seen w.down ++ numbered_notes s.used [] x.outs) ++ note_asking (s.used + length x.outs + 1) ∷ []) (notes_seen (w.down ++ numbered_messages s.used made.drafts))
     ((written_seen w.said ++ notes_written_by false (numbered_notes s.used [] x.outs)) ++ (let l : WrittenNote = record { by_client = false; numbered = note_asking (s.used + length x.outs + 1) } in l) ∷ []) (written_seen (w.said ++ said_by Adapter (numbered_messages s.used made.drafts)))
