@@ -6,7 +6,8 @@ use Rattle.serde_json.specs.Data.{Data}
 use Rattle.std.specs.List.{list_any}
 use Rattle.dap_ends.specs.Messages.{Ask, has_seq, is_same}
 use Rattle.dap_ends.specs.Messages as small
-use Rattle.dap_ends.specs.ClientModel.{answered_phase, client_model_takes}
+use Rattle.dap_ends.specs.ClientModel.{ClientModel, answered_phase, requests_without, client_model_takes}
+use Rattle.dap_ends.specs.ClientModel as model
 use Rattle.dap_ends.specs.References.{Ref, is_resuming, holds, with_refs, given_with, given_after}
 use Rattle.dap_ends.proofs.Counts.{names-same}
 use Rattle.dap_command.specs.Command.{command_named}
@@ -212,6 +213,19 @@ fault-if : (b : Bool) (made : Made) (f : ClientFault) → (let x : Result Made C
 fault-if true made f e = cc
 fault-if false made f e = let same : ReferenceLimit ≡ f = cc in (refl, sym same)
 
+-- the model's fault, by whether a request of that number, and of that name, is outstanding
+unmatched-if : (b : Bool) (x c : ClientModel) → b ≡ false → (let m : ClientModel = (if b then x else record c { fault = Some model.Unmatched }) in m).fault ≡ Some model.Unmatched
+unmatched-if true x c e = cc
+unmatched-if false x c e = refl
+
+mismatched-if : (a b : Bool) (x y c : ClientModel) → a ≡ true → b ≡ false → (let m : ClientModel = (if a then (if b then x else record c { fault = Some model.CommandMismatch }) else y) in m).fault ≡ Some model.CommandMismatch
+mismatched-if true true x y c e h = cc
+mismatched-if true false x y c e h = refl
+mismatched-if false b x y c e h = cc
+
+abbrev taken_by : ClientModel → Ask → Bool → ClientModel
+taken_by c a ok = record c { phase = answered_phase c.phase c.resumer a ok; asked = requests_without a.seq c.asked }
+
 abbrev Refused : Session → ℕ → Bool → List ℕ → Option Data → ClientFault → Type 0
 Refused s q ok name body f = IsRefused s q (small.Response (ask_of q name) ok) (references_seen (references_given_if ok (command_named name) body)) f
 
@@ -227,10 +241,15 @@ refused-if true s q ok name body r f w e n h =
 refused-if false s q ok name body r f w e n h =
     let same : CommandMismatch q ≡ f = cc in
     let there = is-asked q r s.outstanding e in
-    inr (inr (sym same, rw (there.number, other-name q r s.outstanding name w.distinct e n) refl))
+    let c : ClientModel = client_model_of s in
+    inr (inr (sym same, mismatched-if (list_any (has_seq q) c.asked) (list_any (is_same (ask_of q name)) c.asked) (taken_by c (ask_of q name) ok) (record c { fault = Some model.Unmatched }) c there.number (other-name q r s.outstanding name w.distinct e n)))
 
 answer-refused : (s : Session) (q : ℕ) (ok : Bool) (name : List ℕ) (body : Option Data) (o : Option Entry) (f : ClientFault) → IsWithin s → entry_with q s.outstanding ≡ o → takes_answer o q ok name body s ≡ Err f → Refused s q ok name body f
-answer-refused s q ok name body None f w e h = let same : Unmatched q ≡ f = cc in inr (inl (sym same, rw (none-asked q s.outstanding e) refl))
+answer-refused s q ok name body None f w e h =
+    let same : Unmatched q ≡ f = cc in
+    let c : ClientModel = client_model_of s in
+    let matched : ClientModel = (if list_any (is_same (ask_of q name)) c.asked then taken_by c (ask_of q name) ok else record c { fault = Some model.CommandMismatch }) in
+    inr (inl (sym same, unmatched-if (list_any (has_seq q) c.asked) matched c (none-asked q s.outstanding e)))
 answer-refused s q ok name body (Some r) f w e h = refused-if (bytes_eq name r.command) s q ok name body r f w e refl h
 
 pub response-taken : (s : Session) (q : ℕ) (ok : Bool) (name : List ℕ) (body : Option Data) (made : Made) → IsWithin s → takes_answer (entry_with q s.outstanding) q ok name body s ≡ Ok made
