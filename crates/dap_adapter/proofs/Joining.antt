@@ -48,7 +48,7 @@ module _ (piece more : List ℕ) where
     stands = λ s xs rest st. subst (λ (z : List ℕ). StandsForStream new (s ++ z) xs (rest ++ z)) (same_front x.n x.within) (x.stands s xs rest st);
   }
 
-  longer_whole : (old : Intake) (n : ℕ) → Whole old piece n → Whole old (piece ++ more) n
+  abbrev longer_whole : (old : Intake) (n : ℕ) → Whole old piece n → Whole old (piece ++ more) n
   longer_whole old n x = record { ready = x.ready; completes = longer_completes old x.ready n x.completes }
 
   longer_closed : {D : Type 0} (old : Intake) (p : SessionState D) (fault : AdapterFault) → ClosedBy old p.session piece fault → ClosedBy old p.session (piece ++ more) fault
@@ -93,22 +93,22 @@ module _ {D : Type 0} (shown : D → Shown) (follows : Goes D) where
 
   -- the session ends within the first
   pub first_ends : (a b : AdapterState D) (piece more before after : List ℕ) (ended : Bool) → ended ≡ true → AnswersPiece shown follows a piece before b after ended → AnswersPiece shown follows a (piece ++ more) before b after true
-  first_ends a b piece more before after ended yes x = record {
+  first_ends a b piece more before after ended is x = record {
     used = x.used;
     later = x.later ++ more;
     piece_is = ap (λ (z : List ℕ). z ++ more) x.piece_is ∙ append_assoc x.used x.later more;
     outs = x.outs;
     runs_on = x.runs_on;
     appended = x.appended;
-    ended_is = x.ended_is ∙ yes;
+    ended_is = x.ended_is ∙ is;
     all = λ no. cc;
   }
 
-  module _ (a b c : AdapterState D) (piece more before mid after : List ℕ) (ended : Bool) (no : ended ≡ false) (x : AnswersPiece shown follows a piece before b mid ended) where
+  module _ (a b c : AdapterState D) (piece more before mid after : List ℕ) (ended : Bool) (on : ended ≡ false) (x : AnswersPiece shown follows a piece before b mid ended) where
     -- all of the first is used
     both_used : (used later : List ℕ) → more ≡ used ++ later → piece ++ more ≡ (x.used ++ used) ++ later
     both_used used later is =
-        let first : piece ≡ x.used = x.piece_is ∙ (ap (λ (z : List ℕ). x.used ++ z) (x.all no) ∙ append-nil x.used) in
+        let first : piece ≡ x.used = x.piece_is ∙ (ap (λ (z : List ℕ). x.used ++ z) (x.all on) ∙ append-nil x.used) in
         ap (λ (z : List ℕ). z ++ more) first ∙ (ap (λ (z : List ℕ). x.used ++ z) is ∙ sym (append_assoc x.used used later))
 
     both_appended : (outs : List Message) (end : List ℕ) → end ≡ mid ++ bytes_of outs → end ≡ before ++ bytes_of (x.outs ++ outs)
@@ -146,8 +146,8 @@ module _ {D : Type 0} (shown : D → Shown) (follows : Goes D) where
     then_ok (Err fault) y = tt
 
     pub then_err : (r : Result Bool AdapterFault) → b.fault ≡ None → IfErr r (λ fault. b.fault ≡ None → StopsAfter shown follows b to_take more mid fault c after) → IfErr r (λ fault. StopsAfter shown follows a to_take (piece ++ more) before fault c after)
-    then_err (Ok last) open y = tt
-    then_err (Err fault) open y = then_stops fault (y open)
+    then_err (Ok last) still y = tt
+    then_err (Err fault) still y = then_stops fault (y still)
 
     pub then_err_open : (r : Result Bool AdapterFault) → IfErr r (λ fault. StopsAfter shown follows b to_take more mid fault c after) → IfErr r (λ fault. StopsAfter shown follows a to_take (piece ++ more) before fault c after)
     then_err_open (Ok last) y = tt
@@ -165,7 +165,7 @@ module _ {D : Type 0} (shown : D → Shown) (follows : Goes D) (a b : AdapterSta
 
   pub err_of : (r : Result Bool AdapterFault) → IfErr r (λ fault. StopsAfter shown follows a to_take piece before fault b after) → IfErr r (λ fault. a.fault ≡ None → StopsAfter shown follows a to_take other before fault b after)
   err_of (Ok last) x = tt
-  err_of (Err fault) x = λ open. subst (λ (z : List ℕ). StopsAfter shown follows a to_take z before fault b after) is x
+  err_of (Err fault) x = λ still. subst (λ (z : List ℕ). StopsAfter shown follows a to_take z before fault b after) is x
 
   pub piece_of : AnswersPiece shown follows a piece before b after true → AnswersPiece shown follows a other before b after true
   piece_of x = subst (λ (z : List ℕ). AnswersPiece shown follows a z before b after true) is x

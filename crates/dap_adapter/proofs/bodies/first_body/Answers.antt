@@ -6,12 +6,12 @@ use Rattle.dap_adapter.proofs.bodies.first_body.Goals as goal
 
 pub returns-in_err-digits-clause-first : goal.returns-in_err-digits-clause-first
 returns-in_err-digits-clause-first c body rest is =
-    let small : length body < 2 ^ 64 = omega (arith, c.len.ensures, body_within c.args.frames.now body rest is) in
+    let small : length body < 2 ^ 64 = omega (arith, body_within c.args.frames.now body rest is) in
     absurd (c.in_err-digits.ensures.split (length body) (10 ∷ 13 ∷ 10 ∷ (body ++ rest)) small (framed c.args.frames.now body rest is))
 
 pub returns-in_err-len-clause-first : goal.returns-in_err-len-clause-first
 returns-in_err-len-clause-first c body rest is =
-    let small : length body < 2 ^ 64 = omega (arith, c.len.ensures, body_within c.args.frames.now body rest is) in
+    let small : length body < 2 ^ 64 = omega (arith, body_within c.args.frames.now body rest is) in
     let split = c.in_ok-digits.ensures.split (length body) (10 ∷ 13 ∷ 10 ∷ (body ++ rest)) small (framed c.args.frames.now body rest is) in
     let read : c.number.result ≡ Some (length body) = c.number.ensures (length body) small split.0 in
     let none : c.number.result ≡ None = c.in_err-len.was in
@@ -20,13 +20,13 @@ returns-in_err-len-clause-first c body rest is =
 
 pub returns-in_err-_blank_line-clause-first : goal.returns-in_err-_blank_line-clause-first
 returns-in_err-_blank_line-clause-first c body rest is =
-    let small : length body < 2 ^ 64 = omega (arith, c.len.ensures, body_within c.args.frames.now body rest is) in
+    let small : length body < 2 ^ 64 = omega (arith, body_within c.args.frames.now body rest is) in
     let split : (c.in_ok-digits.digits.now ≡ decimal (length body)) × (c.in_ok-digits.behind.now ≡ 13 ∷ 10 ∷ 13 ∷ 10 ∷ (body ++ rest)) = c.in_ok-digits.ensures.split (length body) (10 ∷ 13 ∷ 10 ∷ (body ++ rest)) small (framed c.args.frames.now body rest is) in
     absurd (omega (arith, ap length split.1, c.in_err-_blank_line.ensures.cases))
 
 pub returns-clause-first : goal.returns-clause-first
 returns-clause-first c body rest is =
-    let small : length body < 2 ^ 64 = omega (arith, c.len.ensures, body_within c.args.frames.now body rest is) in
+    let small : length body < 2 ^ 64 = omega (arith, body_within c.args.frames.now body rest is) in
     let split : (c.in_ok-digits.digits.now ≡ decimal (length body)) × (c.in_ok-digits.behind.now ≡ 13 ∷ 10 ∷ 13 ∷ 10 ∷ (body ++ rest)) = c.in_ok-digits.ensures.split (length body) (10 ∷ 13 ∷ 10 ∷ (body ++ rest)) small (framed c.args.frames.now body rest is) in
     let read : c.number.result ≡ Some (length body) = c.number.ensures (length body) small split.0 in
     let here : c.number.result ≡ Some c.in_ok-len.len = c.in_ok-len.was in

@@ -14,20 +14,20 @@ returns-then-is_ended-clause-answers g c =
 
 pub returns-in-Ok-false-clause-answers : goal.returns-in-Ok-false-clause-answers
 returns-in-Ok-false-clause-answers g c =
-    ok_of g.D.Debuggee.shown g.D.Debuggee.follows c.args.self.now c.answer_in_two-in-Ok-false.new.self ((codes "Content-Length: " ++ c.as_bytes-text.result.now) ++ (codes "\r\n\r\n" ++ c.args.body.now)) (frame_of c.args.body.now) c.args.out.now.items c.answer_in_two-in-Ok-false.new.out.items (parts_are c.as_bytes-text.result.now c.args.body.now (c.as_bytes-text.ensures.value ∙ (c.format.ensures.text ∙ ap decimal c.len.ensures))) c.answer_in_two-in-Ok-false.result
+    ok_of g.D.Debuggee.shown g.D.Debuggee.follows c.args.self.now c.answer_in_two-in-Ok-false.new.self ((codes "Content-Length: " ++ c.as_bytes-text.result.now) ++ (codes "\r\n\r\n" ++ c.args.body.now)) (frame_of c.args.body.now) c.args.out.now.items c.answer_in_two-in-Ok-false.new.out.items (parts_are c.as_bytes-text.result.now c.args.body.now (c.as_bytes-text.ensures.value ∙ c.format.ensures.text)) c.answer_in_two-in-Ok-false.result
     (then_ok g.D.Debuggee.shown g.D.Debuggee.follows c.args.self.now c.answer_in_two.new.self c.answer_in_two-in-Ok-false.new.self (codes "Content-Length: " ++ c.as_bytes-text.result.now) (codes "\r\n\r\n" ++ c.args.body.now) c.args.out.now.items c.answer_in_two.new.out.items c.answer_in_two-in-Ok-false.new.out.items _ c.in-Ok-false.field-0-test c.in-Ok-false.ensures.answers c.answer_in_two-in-Ok-false.result c.answer_in_two-in-Ok-false.ensures.answers)
 
 pub returns-in-Ok-false-clause-stops : goal.returns-in-Ok-false-clause-stops
 returns-in-Ok-false-clause-stops g c =
-    err_of g.D.Debuggee.shown g.D.Debuggee.follows c.args.self.now c.answer_in_two-in-Ok-false.new.self ((codes "Content-Length: " ++ c.as_bytes-text.result.now) ++ (codes "\r\n\r\n" ++ c.args.body.now)) (frame_of c.args.body.now) c.args.out.now.items c.answer_in_two-in-Ok-false.new.out.items (parts_are c.as_bytes-text.result.now c.args.body.now (c.as_bytes-text.ensures.value ∙ (c.format.ensures.text ∙ ap decimal c.len.ensures))) c.answer_in_two-in-Ok-false.result
+    err_of g.D.Debuggee.shown g.D.Debuggee.follows c.args.self.now c.answer_in_two-in-Ok-false.new.self ((codes "Content-Length: " ++ c.as_bytes-text.result.now) ++ (codes "\r\n\r\n" ++ c.args.body.now)) (frame_of c.args.body.now) c.args.out.now.items c.answer_in_two-in-Ok-false.new.out.items (parts_are c.as_bytes-text.result.now c.args.body.now (c.as_bytes-text.ensures.value ∙ c.format.ensures.text)) c.answer_in_two-in-Ok-false.result
     (then_err_open g.D.Debuggee.shown g.D.Debuggee.follows c.args.self.now c.answer_in_two.new.self c.answer_in_two-in-Ok-false.new.self (codes "Content-Length: " ++ c.as_bytes-text.result.now) (codes "\r\n\r\n" ++ c.args.body.now) c.args.out.now.items c.answer_in_two.new.out.items c.answer_in_two-in-Ok-false.new.out.items _ c.in-Ok-false.field-0-test c.in-Ok-false.ensures.answers c.answer_in_two-in-Ok-false.result c.answer_in_two-in-Ok-false.ensures.stops)
 
 pub returns-in-Ok-true-clause-answers : goal.returns-in-Ok-true-clause-answers
 returns-in-Ok-true-clause-answers g c =
-    piece_of g.D.Debuggee.shown g.D.Debuggee.follows c.args.self.now c.answer_in_two.new.self ((codes "Content-Length: " ++ c.as_bytes-text.result.now) ++ (codes "\r\n\r\n" ++ c.args.body.now)) (frame_of c.args.body.now) c.args.out.now.items c.answer_in_two.new.out.items (parts_are c.as_bytes-text.result.now c.args.body.now (c.as_bytes-text.ensures.value ∙ (c.format.ensures.text ∙ ap decimal c.len.ensures)))
+    piece_of g.D.Debuggee.shown g.D.Debuggee.follows c.args.self.now c.answer_in_two.new.self ((codes "Content-Length: " ++ c.as_bytes-text.result.now) ++ (codes "\r\n\r\n" ++ c.args.body.now)) (frame_of c.args.body.now) c.args.out.now.items c.answer_in_two.new.out.items (parts_are c.as_bytes-text.result.now c.args.body.now (c.as_bytes-text.ensures.value ∙ c.format.ensures.text))
     (first_ends g.D.Debuggee.shown g.D.Debuggee.follows c.args.self.now c.answer_in_two.new.self (codes "Content-Length: " ++ c.as_bytes-text.result.now) (codes "\r\n\r\n" ++ c.args.body.now) c.args.out.now.items c.answer_in_two.new.out.items _ c.in-Ok-true.field-0-test c.in-Ok-true.ensures.answers)
 
 pub returns-in-Err-clause-stops : goal.returns-in-Err-clause-stops
-returns-in-Err-clause-stops g c = λ open.
-    stop_of g.D.Debuggee.shown g.D.Debuggee.follows c.args.self.now c.answer_in_two.new.self ((codes "Content-Length: " ++ c.as_bytes-text.result.now) ++ (codes "\r\n\r\n" ++ c.args.body.now)) (frame_of c.args.body.now) c.args.out.now.items c.answer_in_two.new.out.items (parts_are c.as_bytes-text.result.now c.args.body.now (c.as_bytes-text.ensures.value ∙ (c.format.ensures.text ∙ ap decimal c.len.ensures))) c.in-Err.fault
+returns-in-Err-clause-stops g c = λ still.
+    stop_of g.D.Debuggee.shown g.D.Debuggee.follows c.args.self.now c.answer_in_two.new.self ((codes "Content-Length: " ++ c.as_bytes-text.result.now) ++ (codes "\r\n\r\n" ++ c.args.body.now)) (frame_of c.args.body.now) c.args.out.now.items c.answer_in_two.new.out.items (parts_are c.as_bytes-text.result.now c.args.body.now (c.as_bytes-text.ensures.value ∙ c.format.ensures.text)) c.in-Err.fault
     (first_stops g.D.Debuggee.shown g.D.Debuggee.follows c.args.self.now c.answer_in_two.new.self (codes "Content-Length: " ++ c.as_bytes-text.result.now) (codes "\r\n\r\n" ++ c.args.body.now) c.args.out.now.items c.answer_in_two.new.out.items c.in-Err.fault c.in-Err.ensures.stops)
