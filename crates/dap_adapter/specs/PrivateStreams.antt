@@ -1,4 +1,4 @@
--- What is said of streams of frames within limits.
+-- What the proofs say of streams of frames within limits.
 use Rattle.std.specs.Prelude.{◌≡◌, ℕ, ◌≤◌, List, [], ◌∷◌, ◌++◌, length}
 use Rattle.dap_frame.specs.declared.limits.Bounds.{Bounds}
 use Rattle.dap_frame.specs.Stream.{Frame, NoFrame, Split}

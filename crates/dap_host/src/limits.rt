@@ -4,7 +4,7 @@ ghost use Rattle.dap_frame.specs.Settings.{AreInRange};
 use dap_frame::Limits;
 
 /// That limits are in their ranges.
-pub fn limits_are_in_range(limits: &Limits)
+pub(crate) fn limits_are_in_range(limits: &Limits)
     ensures { AreInRange limits.now }
 {
     let _header = limits.header();

@@ -60,5 +60,11 @@ framed bytes body rest is =
     let digits = decimal (length body) in
     is ∙ ap (λ (xs : List ℕ). codes "Content-Length: " ++ xs) (append_assoc (digits ++ codes "\r\n\r\n") body rest ∙ append_assoc digits (codes "\r\n\r\n") (body ++ rest))
 
+pub body_within : (bytes body rest : List ℕ) → bytes ≡ frame_of body ++ rest → length body ≤ length bytes
+body_within bytes body rest is =
+    let digits = decimal (length body) in
+    let behind : List ℕ = 13 ∷ 10 ∷ 13 ∷ 10 ∷ (body ++ rest) in
+    omega (arith, ap length (framed bytes body rest is), length-append (codes "Content-Length: ") (digits ++ behind), length-append digits behind, length-append body rest)
+
 pub body_there : (body rest : List ℕ) → take (length body) (body ++ rest) ≡ body
 body_there body rest = take-append-le (length body) body rest (omega arith) ∙ take_all (length body) body (omega arith)

@@ -11,7 +11,7 @@ use Rattle.dap_adapter.specs.Run.{Next, to_take, to_turn, to_poll, Run, begins, 
 use Rattle.dap_envelope.specs.declared.message.Message.{Message}
 use Rattle.dap_plan.specs.Carried.{Goes}
 use Rattle.dap_plan.specs.SessionState.{SessionState}
-use Rattle.dap_host.specs.StreamLaws.{StreamLaws}
+use Rattle.dap_adapter.specs.PrivateStreams.{StreamLaws}
 
 pub stream_laws : (limits : Settings) → AreInRange limits → WrittenIsReadAgain → EachStreamHasOneSplit → FrameHasNoFrameWithin → StreamLaws (bounds_of limits)
 stream_laws limits range written one within = record {

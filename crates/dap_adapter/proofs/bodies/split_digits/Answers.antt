@@ -1,7 +1,7 @@
 use Rattle.std.proofs.Common.{◌≡◌, ◌∷◌, ◌++◌, ◌<◌, Some, None, take, drop, length, ap, ◌∙◌, arith}
 use Rattle.std.specs.Prelude.{decimal}
-use Rattle.dap_line.proofs.BodyLemmas.{ends_at, long, digits_there, rest_there, cut_in_two}
-use Rattle.dap_line.proofs.bodies.split_digits.Goals as goal
+use Rattle.dap_adapter.proofs.BodyLemmas.{ends_at, long, digits_there, rest_there, cut_in_two}
+use Rattle.dap_adapter.proofs.bodies.split_digits.Goals as goal
 
 pub returns-in_err-end-clause-split : goal.returns-in_err-end-clause-split
 returns-in_err-end-clause-split c n rest small is =

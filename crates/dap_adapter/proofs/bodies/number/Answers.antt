@@ -1,8 +1,8 @@
 use Rattle.std.proofs.Common.{◌≡◌, Ok, ◌∙◌, ap}
 use Rattle.std.specs.Result.{result_ok}
 use Rattle.std.proofs.lemmas.Fmt.{parse-decimal}
-use Rattle.dap_line.proofs.BodyLemmas.{digits_are_text}
-use Rattle.dap_line.proofs.bodies.number.Goals as goal
+use Rattle.dap_adapter.proofs.BodyLemmas.{digits_are_text}
+use Rattle.dap_adapter.proofs.bodies.number.Goals as goal
 
 pub returns-in_default : goal.returns-in_default
 returns-in_default c n small is = absurd (c.in_default.ensures.cases.0 (digits_are_text n c.args.digits.now small is))
