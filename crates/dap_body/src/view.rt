@@ -12,9 +12,8 @@ ghost use Rattle.dap_body.specs.Lent.{thread_parts, source_parts, stack_frame_pa
 pub use crate::elements::{Breakpoint, Evaluation, Scope, Source, StackFrame, Thread, Variable};
 pub use crate::fault::ViewFault;
 pub use crate::key::BodyKey;
-pub use dap_command::Capabilities;
-
 use crate::key::at;
+pub use dap_command::Capabilities;
 use serde_json::Value;
 use std::alloc::Global;
 

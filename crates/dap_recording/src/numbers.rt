@@ -5,7 +5,6 @@ ghost use Rattle.dap_recording.specs.Reading.{exit_of};
 ghost use Rattle.dap_recording.specs.Recording.{line_count as line_count_of};
 
 pub use dap_json::numbers::{int, number};
-
 use serde_json::Value;
 
 /// The greatest line, and the greatest place of a source.
