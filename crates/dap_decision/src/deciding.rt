@@ -76,6 +76,16 @@ fn thread_named(call: &Call) -> Option<i64>
     }
 }
 
+/// The source whose text it asks for.
+fn source_named(call: &Call) -> Option<u32>
+    ensures { result ≡ source_named call.now }
+{
+    match call.object() {
+        CallObject::Source(number) => Some(number),
+        _ => None,
+    }
+}
+
 /// The reference that a call names, and what it has to be.
 fn reference_named(call: &Call) -> Option<(ReferenceKind, u32)>
     ensures { result ≡ reference_named call.now }
@@ -130,7 +140,7 @@ fn lacks_reference(queries: &Queries, call: &Call) -> bool
 fn lacks_source<D: Debuggee>(alloc: Global, debuggee: &D, call: &Call) -> Result<bool, AllocError>
     ensures { IfOk result (λ lacks. lacks ≡ lacks_source (D.shown debuggee.now) (source_named call.now)) }
 {
-    let CallObject::Source(number) = call.object() else {
+    let Some(number) = source_named(call) else {
         return Ok(false);
     };
     if number == 0 {
