@@ -1,12 +1,11 @@
 -- Each step of a client is the model's: what events change, requests of the adapter, and the law.
-use Rattle.std.proofs.Common.{◌≡◌, ℕ, List, [], ◌∷◌, ◌++◌, Option, Some, None, refl}
+use Rattle.std.proofs.Common.{[], ◌∷◌, Option, Some, None, refl}
 use Rattle.std.proofs.lemmas.List.{map-append}
 use Rattle.serde_json.specs.Data.{Data}
 use Rattle.dap_ends.specs.Messages as small
 use Rattle.dap_ends.specs.ClientModel.{client_model_takes}
 use Rattle.dap_ends.specs.References.{given_after}
 use Rattle.dap_tables.specs.Outstanding.{Kept, kept_unparked}
-use Rattle.dap_tables.specs.declared.entry.Entry.{Entry}
 use Rattle.dap_client.specs.declared.phase.Phase.{Phase}
 use Rattle.dap_client.specs.declared.phase.Phase.TheVariants.{Fresh}
 use Rattle.dap_client.specs.declared.signal.Signal.{Signal}

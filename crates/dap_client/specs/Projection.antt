@@ -1,5 +1,5 @@
 -- A client as the model of two ends has it (dap_ends): commands in classes, of a message its number, its name, whether it is a success and its references, of a session the phase, the requests and the references. What the adapter offers, the arguments of calls and bytes are left out.
-use Rattle.std.specs.Prelude.{◌≡◌, ◌⊎◌, ℕ, ◌+◌, ◌≤◌, ◌<◌, ◌==◌, List, [], ◌∷◌, ◌++◌, length, map, Bool, true, false, if◌then◌else◌, Option, Some, None, Ok, Err}
+use Rattle.std.specs.Prelude.{◌≡◌, ◌⊎◌, ℕ, ◌≤◌, ◌<◌, ◌==◌, List, [], ◌∷◌, ◌++◌, length, map, Bool, true, false, if◌then◌else◌, Option, Some, None, Ok, Err}
 use Rattle.std.specs.List.{list_any}
 use Rattle.serde_json.specs.Data.{Data}
 use Rattle.dap_ends.specs.Messages.{Ask, code, has_seq}
@@ -214,7 +214,7 @@ pub record EachStepProjects : Type 0 where
   pub answered : (s : Session) (seq q : ℕ) (ok : Bool) (name : List ℕ) (why : Option (List ℕ)) (body : Option Data)
       → (made : Made) → IsWithin s → takes_as seq (Response q ok name why body) s ≡ Ok made
       → IsTaken s (after_response q ok (command_named name) body s.seen)
-          (response_seen q ok name) (response_references ok name body) made
+      (response_seen q ok name) (response_references ok name body) made
   pub refused : (s : Session) (seq q : ℕ) (ok : Bool) (name : List ℕ) (why : Option (List ℕ)) (body : Option Data)
       → (f : ClientFault) → IsWithin s → takes_as seq (Response q ok name why body) s ≡ Err f
       → IsRefused s q (response_seen q ok name) (response_references ok name body) f
@@ -225,7 +225,7 @@ pub record EachStepProjects : Type 0 where
   pub repeats : (s : Session) (q : ℕ) → contains_seq q s.incoming ≡ list_any (has_seq q) (asks_seen s.incoming)
   pub kept : (s : Session) (r : Entry)
       → IsClient (made_by_keeping r s).after
-          (client_model_of s) (given_of s) s.seen.announced (asks_seen s.incoming ++ entry_ask r ∷ [])
+      (client_model_of s) (given_of s) s.seen.announced (asks_seen s.incoming ++ entry_ask r ∷ [])
   pub declined : (s : Session) (q : ℕ) (name : List ℕ) (failure : Failure)
       → UsesNumber s (asks_seen s.incoming) (made_by_declining q name failure s).after
   pub terminal : (s : Session) (q : ℕ)

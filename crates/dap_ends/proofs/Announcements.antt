@@ -2,9 +2,9 @@
 use Rattle.std.proofs.Common.{filter, ◌≡◌, ℕ, ◌+◌, ◌<◌, ◌≤◌, List, [], ◌∷◌, ◌++◌, Bool, true, false, not, refl, sym, ap, ◌∙◌, subst, arith, length, inl, inr, Option, Some, None}
 use Rattle.std.specs.Prelude.{◌⊎◌, ◌==◌, ◌&&◌, if◌then◌else◌, nat_lt}
 use Rattle.std.specs.List.{list_any}
-use Rattle.dap_ends.specs.Messages.{Command, Initialize, Launch, ConfigurationDone, Disconnect, Terminate, Cancel, Setter, Lookup, Resume, Pause, Inspect, Unserved, Ask, Message, Request, Response, Event, one_if, code, count, has_seq, requests_in, answered_in}
-use Rattle.dap_ends.specs.AdapterModel.{AdapterModel, Made, Kept, Answer, Fails, Succeeds, Tries, Parks, Starts_parked, Leaves, Happening, Stops, Continues, Exits, RequestAfterEnd, RepeatedSeq, asks, oldest, but_oldest, parked_of, is_named, requests_named, answer_of, phase_after, phase_after_start, handled_as, after_turn, fails_with, keeps, cancels, takes_request, is_ended, phase_after_happening, would_start, asks_terminal_as, after_asking_turn, ends_wait, AdapterPhase, AdapterFresh, AdapterReady, AdapterConfigured, AdapterParked, AdapterAsked, AdapterRunning, AdapterStopped, AdapterExited, AdapterEnded}
-use Rattle.dap_ends.specs.ClientModel.{ClientModel, ReferenceLimit, Phase, Fresh, Initializing, Configuring, Running, Stopped, Resuming, Exited, Ended, allows, may_send, next_ask, client_model_takes, requests_without}
+use Rattle.dap_ends.specs.Messages.{Command, Initialize, Launch, ConfigurationDone, Terminate, Resume, Ask, Message, Request, Response, Event, one_if, code, count, has_seq, requests_in, answered_in}
+use Rattle.dap_ends.specs.AdapterModel.{AdapterModel, Made, Kept, Answer, Fails, Succeeds, Tries, Parks, Starts_parked, Leaves, Happening, Stops, Continues, Exits, RequestAfterEnd, RepeatedSeq, asks, oldest, but_oldest, parked_of, is_named, requests_named, answer_of, phase_after, phase_after_start, handled_as, after_turn, fails_with, keeps, cancels, takes_request, is_ended, phase_after_happening, would_start, asks_terminal_as, after_asking_turn, ends_wait, AdapterPhase, AdapterFresh, AdapterReady, AdapterConfigured, AdapterParked, AdapterAsked, AdapterRunning, AdapterStopped, AdapterEnded}
+use Rattle.dap_ends.specs.ClientModel.{ClientModel, ReferenceLimit, Phase, Fresh, allows, may_send, next_ask, client_model_takes, requests_without}
 use Rattle.dap_ends.specs.References.{Ref, inspection_succeeds, all_in, references_carried, given_with, given_after, plain_world}
 use Rattle.dap_ends.specs.Standing.{is_initialize}
 use Rattle.dap_ends.specs.Pair.{NumberedNote, Pair, PairStep, PairSend, PairAnswer, PairDeliverUp, PairTurn, PairPoll, PairDeliverDown, pair_start, is_terminal_ask, has_fault, request_with_seq, sets_variable, unless_sets_variable, with_fault, announced_after_sending, pair_after_sending, pair_sends, replies, pair_answers, pair_after_adapter, pair_takes_up, pair_comes_up, launch_seq, turn_asks, terminal_after_command, terminal_after_turn, writes_terminal_ask, pair_asks_terminal, pair_after_turn, pair_eyes, pair_takes_down, pair_comes_down, pair_happens, pair_run, request_in, requests_up, client_world, client_world_with}

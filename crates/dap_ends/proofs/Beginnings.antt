@@ -3,7 +3,7 @@ use Rattle.std.proofs.Common.{◌≡◌, ℕ, ◌+◌, ◌<◌, ◌≤◌, List,
 use Rattle.std.specs.Prelude.{◌⊎◌, ◌==◌, ◌&&◌, if◌then◌else◌, nat_lt}
 use Rattle.std.specs.List.{list_any}
 use Rattle.dap_ends.specs.Messages.{Command, Initialize, Disconnect, Terminate, Restart, Resume, Ask, Kind, StoppedEvent, ContinuedEvent, ExitedEvent, TerminatedEvent, Message, Request, Response, Event, one_if, code, count, has_seq, is_same, requests_in, answered_in, AllRequests, NoRequests, answer_each, events_of}
-use Rattle.dap_ends.specs.AdapterModel.{AdapterModel, Made, Kept, Happening, asks, oldest, but_oldest, parked_of, unparked_of, answer_of, handled_as, after_turn, adapter_model_takes, adapter_model_polls, after_asking_turn, ends_wait, cancels, keeps, takes_request, phase_after_happening, events_after_happening, is_ended as has_left, AdapterPhase, AdapterFresh, AdapterReady, AdapterConfigured, AdapterParked, AdapterAsked, AdapterRunning, AdapterStopped, AdapterExited, AdapterEnded}
+use Rattle.dap_ends.specs.AdapterModel.{AdapterModel, Made, Kept, Happening, asks, oldest, but_oldest, parked_of, unparked_of, answer_of, handled_as, after_turn, adapter_model_takes, adapter_model_polls, after_asking_turn, ends_wait, cancels, keeps, takes_request, phase_after_happening, events_after_happening, is_ended as has_left, AdapterPhase, AdapterFresh, AdapterAsked}
 use Rattle.dap_ends.specs.ClientModel.{ClientModel, Phase, Fresh, Initializing, Configuring, Running, Stopped, Resuming, Exited, Ended, allows, phase_sent, may_send, next_ask, after_sending, answered_phase, event_phase, takes_response, client_model_takes}
 use Rattle.dap_ends.specs.World.{World, Step, Send, DeliverUp, Turn, Poll, DeliverDown, AskTerminal, EndWait, UseNumber, start, after_adapter, comes_up, comes_down, happens, run, Agree}
 use Rattle.dap_ends.specs.Transcript.{WorldWithTranscript, transcript_start, transcript_step, transcript_run}

@@ -2,7 +2,7 @@
 use Rattle.std.proofs.Common.{◌∙◌, ◌≡◌, ℕ, ◌+◌, ◌<◌, ◌≤◌, List, [], ◌∷◌, ◌++◌, Bool, true, false, refl, sym, ap, subst, arith, length, Option, Some, None, inl, inr}
 use Rattle.std.specs.Prelude.{◌==◌, ◌&&◌, if◌then◌else◌, ◌⊎◌}
 use Rattle.std.proofs.lemmas.List.{append-nil}
-use Rattle.dap_ends.specs.Messages.{Command, Initialize, Launch, ConfigurationDone, Disconnect, Terminate, Cancel, Setter, Lookup, Resume, Pause, Inspect, Unserved, Ask, Message, code, one_if, Response, count, has_seq, is_same}
+use Rattle.dap_ends.specs.Messages.{Command, Launch, ConfigurationDone, Inspect, Ask, Message, code, one_if, Response, count, has_seq, is_same}
 use Rattle.dap_ends.specs.AdapterModel.{AdapterModel, oldest, parked_of, unparked_of, asks, would_start, asks_terminal_as, after_asking_turn, adapter_model_turns, is_parked_phase, AdapterPhase, AdapterFresh, AdapterReady, AdapterConfigured, AdapterParked, AdapterAsked, AdapterRunning, AdapterStopped, AdapterExited, AdapterEnded, Made, ends_wait}
 use Rattle.dap_ends.specs.ClientModel.{ClientModel, requests_without}
 use Rattle.dap_ends.specs.World.{World, Agree, MeetsRoom}

@@ -7,7 +7,7 @@ use Rattle.dap_ends.specs.Messages.{Ask, Message, Request, Response, Event}
 use Rattle.dap_ends.specs.AdapterModel.{oldest}
 use Rattle.dap_ends.specs.ClientModel.{ClientModel, ClientFault, ReferenceLimit, client_model_start, client_model_takes}
 use Rattle.dap_ends.specs.World.{Step, DeliverDown as PlainDown}
-use Rattle.dap_ends.specs.References.{Ref, Note, RefWorld, RefStep, RefDeliverDown, RefUseNumber, plain_world, messages, given_with, given_after, ref_happens, ref_run}
+use Rattle.dap_ends.specs.References.{Ref, Note, RefWorld, RefStep, RefDeliverDown, RefUseNumber, plain_world, messages, given_with, ref_happens, ref_run}
 use Rattle.dap_ends.specs.Laws.{KeepsLimit}
 use Rattle.dap_ends.specs.Transcript.{WorldWithTranscript, transcript_start, transcript_run, transcript_step}
 use Rattle.dap_ends.specs.Pair.{NumberedNote, Pair, PairStep, pair_start, pair_happens, pair_comes_down, pair_takes_down, pair_eyes, pair_takes_report, with_fault, has_fault, is_terminal_ask, request_with_seq, turn_asks, sets_variable, reports_down, client_dialogue, client_world, client_world_with, PairSend, PairAnswer, PairDeliverUp, PairTurn, PairPoll, PairDeliverDown}

@@ -1,8 +1,8 @@
 -- A turn that asks for a terminal, the answer to that, and a number used by the client keep what holds.
 use Rattle.std.proofs.Common.{◌≡◌, ℕ, List, [], ◌∷◌, ◌++◌, Bool, true, false, refl, sym, ap, ◌∙◌, subst, arith, length, inr, Option, Some, None}
 use Rattle.dap_ends.specs.Messages.{Command, Launch, ConfigurationDone, Ask, Response, one_if, code, count, requests_in, answer_each}
-use Rattle.dap_ends.specs.AdapterModel.{Made, asks, oldest, but_oldest, park_oldest, parked_of, unparked_of, phase_after_start, is_parked_phase, asks_terminal_as, after_asking_turn, ends_wait, AdapterPhase, AdapterFresh, AdapterReady, AdapterConfigured, AdapterParked, AdapterAsked, AdapterRunning, AdapterStopped, AdapterExited, AdapterEnded}
-use Rattle.dap_ends.specs.ClientModel.{Phase, Fresh, Initializing, Configuring, Running, Stopped, Resuming, Exited, Ended}
+use Rattle.dap_ends.specs.AdapterModel.{Made, asks, oldest, but_oldest, park_oldest, parked_of, unparked_of, phase_after_start, is_parked_phase, asks_terminal_as, after_asking_turn, ends_wait, AdapterPhase, AdapterConfigured, AdapterParked, AdapterAsked, AdapterStopped}
+use Rattle.dap_ends.specs.ClientModel.{Phase, Configuring, Ended}
 use Rattle.dap_ends.specs.World.{Agree}
 use Rattle.dap_ends.specs.References.{Ref, Table, Eyes, RefWorld, eyes, plain_world, notes, ref_made, ref_happens, is_inspect, RefAskTerminal, RefEndWait, RefUseNumber}
 use Rattle.dap_ends.specs.Standing.{future, queue, Matches, AllLive, RefsAgree}

@@ -1,5 +1,5 @@
 -- What stands holds from two fresh ends on, in every schedule.
-use Rattle.std.proofs.Common.{[], false, refl, arith}
+use Rattle.std.proofs.Common.{[], false, refl}
 use Rattle.dap_ends.proofs.Announcements.{announces}
 use Rattle.dap_ends.proofs.PairTranscripts.{writes}
 use Rattle.dap_frame.specs.Settings.{Settings, AreInRange}

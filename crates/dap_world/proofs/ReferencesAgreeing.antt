@@ -109,7 +109,7 @@ module _ {D : Type 0} (laws : Laws) (shown : D → Shown) (limits : Settings) (d
       let few : length (given_with (eyes_of w.client) (message_seen m) (references_seen (references_of_kind m.kind))) ≤ limits.references = next-few m later e in
       let room = ap (λ (l : Settings). l.references) g.stands.client_limits in
       elim (laws.client.refused w.client seq q ok name message body f g.stands.client_within t) [
-        inl x ↦ no-more (length (given_with (eyes_of w.client) (message_seen m) (references_seen (references_of_kind m.kind)))) w.client.limits.references (subst (λ (n : ℕ). length (given_with (eyes_of w.client) (message_seen m) (references_seen (references_of_kind m.kind))) ≤ n) (sym room) few) x.1
+        | inl x ↦ no-more (length (given_with (eyes_of w.client) (message_seen m) (references_seen (references_of_kind m.kind)))) w.client.limits.references (subst (λ (n : ℕ). length (given_with (eyes_of w.client) (message_seen m) (references_seen (references_of_kind m.kind))) ≤ n) (sym room) few) x.1
         | inr x ↦ elim x [ inl y ↦ (let clash = sym full ∙ y.0 in cc) | inr y ↦ (let clash = sym full ∙ y.0 in cc) ]
       ]
   client-fault r seq (Event name body) later f e t = cc

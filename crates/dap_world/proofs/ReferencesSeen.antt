@@ -1,13 +1,13 @@
 -- The references that an end has, as the smaller end has them: what is live, what is known, and what is used and given.
-use Rattle.std.proofs.Common.{◌≡◌, ℕ, zero, suc, ◌+◌, ◌-◌, ◌<◌, ◌≤◌, List, [], ◌∷◌, ◌++◌, length, Bool, true, false, Option, None, refl, sym, ap, ◌∙◌, subst, inl, inr, arith}
+use Rattle.std.proofs.Common.{◌≡◌, ℕ, zero, suc, ◌+◌, ◌-◌, ◌<◌, ◌≤◌, List, [], ◌∷◌, ◌++◌, length, Bool, true, false, Option, None, refl, sym, ap, ◌∙◌, inl, inr, arith}
 use Rattle.std.specs.Prelude.{◌⊎◌, ◌==◌, ◌&&◌, ◌||◌, nat_lt, slice_get, if◌then◌else◌}
 use Rattle.std.specs.List.{list_all}
 use Rattle.std.specs.Set.{is_member}
 use Rattle.std.proofs.lemmas.Bool.Decides.{nat_tests}
 use Rattle.std.proofs.lemmas.List.{map-append}
-use Rattle.dap_ends.specs.References.{Ref, Table, same_ref, same_kind as small_same_kind, IsWithin, all_in, references_from, live_refs, without_references as small_without}
+use Rattle.dap_ends.specs.References.{Table, same_ref, same_kind as small_same_kind, IsWithin, all_in, references_from, live_refs, without_references as small_without}
 use Rattle.dap_tables.specs.Known.{has_pair}
-use Rattle.dap_tables.specs.References.{LiveReferences, same_kind, target_of, is_of_kind, without_references}
+use Rattle.dap_tables.specs.References.{LiveReferences, target_of, is_of_kind, without_references}
 use Rattle.dap_tables.specs.declared.reference_kind.ReferenceKind.{ReferenceKind}
 use Rattle.dap_tables.specs.declared.reference_kind.ReferenceKind.TheVariants.{Frame, Holder}
 use Rattle.dap_tables.specs.declared.target.Target.{Target}
