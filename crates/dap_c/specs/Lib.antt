@@ -2,8 +2,6 @@ pub mod CallGiven
 pub mod CheckFound
 pub mod ClientCalls
 pub mod ClientFaults
-pub mod ClientHandled
 pub mod ClientSeen
-pub mod FramesHandled
 pub mod HeadingFound
 pub mod Refused

@@ -19,7 +19,7 @@ ghost use Rattle.dap_c.specs.ClientFaults.{send_number, answer_number, take_numb
 ghost use Rattle.dap_c_parts.specs.Limited.{settings_of};
 
 use crate::call::call_given;
-use crate::client_handle::{YtClient, full, taken};
+use crate::client_handle::YtClient;
 use crate::held_client::HeldClient;
 use dap_c_parts::causes::{body_cause, cause_of};
 use dap_c_parts::codes::*;
@@ -28,6 +28,7 @@ use dap_c_parts::found::{YtFound, fault_at, nothing_found};
 use dap_c_parts::limits::{self, YtLimits};
 use dap_call::Call;
 use dap_client::{AnswerFault, Client, ClientFault, Got, SendFault, Terminal};
+use dap_slot::{handle_of, take_out};
 use std::alloc::Global;
 
 /// What was sent.
@@ -82,10 +83,10 @@ pub extern "C" fn yt_client_open(alloc: Global, client: &mut YtClient, limits: &
     ensures in_range { result ≡ YT_OK → first_outside (settings_of limits.now) ≡ None }
     ensures codes { (result ≡ YT_OK → ⊥) → (result ≡ YT_BAD_LIMITS → ⊥) → result ≡ YT_NO_MEMORY }
 {
-    taken(alloc, client);
+    take_out(alloc, client);
     match opened(alloc, limits) {
         Ok(held) => {
-            *client = full(held);
+            *client = handle_of(held);
             YT_OK
         }
         Err(code) => code,
@@ -97,7 +98,7 @@ pub extern "C" fn yt_client_open(alloc: Global, client: &mut YtClient, limits: &
 pub extern "C" fn yt_client_free(alloc: Global, client: &mut YtClient)
     ensures { client.new.inner.value ≡ None }
 {
-    drop(taken(alloc, client));
+    drop(take_out(alloc, client));
 }
 
 fn send_code(fault: SendFault) -> u32
@@ -185,11 +186,11 @@ pub extern "C" fn yt_client_send(
     ensures untold { (result ≡ YT_OK → ⊥) → sent.new ≡ sent.old }
     ensures frame { FromTo client.old.inner.value client.new.inner.value (λ c d. (d.frame ≡ c.frame) × (d.whole ≡ c.whole)) }
 {
-    let Some(mut held) = taken(alloc, client) else {
+    let Some(mut held) = take_out(alloc, client) else {
         return YT_NONE;
     };
     let code = send(alloc, &mut *held, command, arguments, sent);
-    *client = full(held);
+    *client = handle_of(held);
     code
 }
 
@@ -282,12 +283,12 @@ pub extern "C" fn yt_client_answer(
     ensures nothing { FromTo client.old.inner.value client.new.inner.value (λ c d. (result ≡ YT_OK → ⊥) → d.bytes.items ≡ []) }
     ensures frame { FromTo client.old.inner.value client.new.inner.value (λ c d. (d.frame ≡ c.frame) × (d.whole ≡ c.whole)) }
 {
-    let Some(mut held) = taken(alloc, client) else {
+    let Some(mut held) = take_out(alloc, client) else {
         return YT_NONE;
     };
     let terminal = terminal_given(runs, process, shell);
     let code = answer(alloc, &mut *held, request_seq, terminal, bytes);
-    *client = full(held);
+    *client = handle_of(held);
     code
 }
 
@@ -423,11 +424,11 @@ pub extern "C" fn yt_client_take(
     ensures nothing { FromTo client.old.inner.value client.new.inner.value (λ c d. (result ≡ YT_OK → ⊥) → (d.bytes.items ≡ []) × (d.whole ≡ false) × FindsNothing found.new) }
     ensures latched { (fault : TheFault) → FromTo client.old.inner.value client.new.inner.value (λ c d. c.client.fault ≡ Some fault → ((result ≡ YT_NO_MEMORY) ⊎ (result ≡ take_number fault)) × (d.client ≡ c.client)) }
 {
-    let Some(mut held) = taken(alloc, client) else {
+    let Some(mut held) = take_out(alloc, client) else {
         return YT_NONE;
     };
     let code = take_piece(alloc, &mut *held, piece, found);
-    *client = full(held);
+    *client = handle_of(held);
     code
 }
 
@@ -440,11 +441,11 @@ pub extern "C" fn yt_client_bytes(alloc: Global, client: &mut YtClient, out: &mu
     ensures small { IfSome client.old.inner.value (λ c. result ≡ YT_SMALL → (length out.old < length c.bytes.items) × (out.new ≡ out.old)) }
     ensures codes { IsSome client.old.inner.value → (result ≡ YT_SMALL → ⊥) → result ≡ YT_OK }
 {
-    let Some(held) = taken(alloc, client) else {
+    let Some(held) = take_out(alloc, client) else {
         return YT_NONE;
     };
     let code = put(held.bytes.as_slice(), out);
-    *client = full(held);
+    *client = handle_of(held);
     code
 }
 
@@ -472,10 +473,10 @@ pub extern "C" fn yt_client_frame(alloc: Global, client: &mut YtClient, out: &mu
     ensures nothing { IfSome client.old.inner.value (λ c. result ≡ YT_NOTHING → (c.whole ≡ false) × (out.new ≡ out.old)) }
     ensures codes { IsSome client.old.inner.value → (result ≡ YT_OK → ⊥) → (result ≡ YT_SMALL → ⊥) → result ≡ YT_NOTHING }
 {
-    let Some(held) = taken(alloc, client) else {
+    let Some(held) = take_out(alloc, client) else {
         return YT_NONE;
     };
     let code = put_frame(&*held, out);
-    *client = full(held);
+    *client = handle_of(held);
     code
 }

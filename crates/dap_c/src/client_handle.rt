@@ -1,12 +1,13 @@
-//! The handle of a client: a client comes in and goes out, and only the handle is touched.
-ghost use Rattle.std.specs.Prelude.{◌≡◌, Option, Some, None, IfSome, IfNone, is_some};
+//! The handle of a client, as it crosses to C.
+ghost use Rattle.std.specs.Prelude.{◌≡◌, Option, is_some};
 ghost use Rattle.std.specs.Coded.{codes};
 ghost use Rattle.dap_json.specs.Stored.{coded_data};
 ghost use Rattle.dap_c.specs.declared.held_client.HeldClient.{HeldClient};
-ghost use Rattle.dap_c.specs.ClientHandled.{handle_owns};
+ghost use Rattle.dap_c.specs.contracts.held_client.HeldClient.{the_row};
+ghost use Rattle.dap_slot.specs.Owned.{handle_owns};
 
 use crate::held_client::HeldClient;
-use dap_slot::Slot;
+use dap_slot::{Handle, Slot};
 use std::alloc::Global;
 use std::marker::Model;
 
@@ -19,7 +20,7 @@ pub struct ClientHandle {
 }
 
 impl Model for ClientHandle {
-    ghost also_owns = { λ h. handle_owns h.at h.value };
+    ghost also_owns = { λ h. handle_owns the_row h.at h.value };
 }
 
 /// A client, or none. All zero is none.
@@ -31,51 +32,40 @@ pub struct YtClient {
     ghost held: { full ≡ is_some inner.value },
 }
 
-/// The slot as a handle.
-fn handle_of(slot: Slot<HeldClient, Global>) -> ClientHandle
+impl Handle for YtClient {
+    type Held = HeldClient;
+
+    ghost value = { λ h. h.inner.value };
+
+    fn from_slot(slot: Slot<HeldClient, Global>, full: bool) -> YtClient
+        requires { full ≡ is_some slot.value }
+        ensures { result.inner.value ≡ slot.value }
+    {
+        YtClient {
+            inner: from_slot(slot),
+            full,
+        }
+    }
+
+    fn into_slot(self, alloc: Global) -> (Slot<HeldClient, Global>, bool) {
+        let YtClient { inner, full } = self;
+        (into_slot(alloc, inner), full)
+    }
+}
+
+fn from_slot(slot: Slot<HeldClient, Global>) -> ClientHandle
     ensures { result.value ≡ slot.value }
 {
     let Slot { at, alloc: _ } = slot;
     ClientHandle { at: at as *mut u8 }
 }
 
-/// The handle as a slot.
-fn slot_of(alloc: Global, handle: ClientHandle) -> Slot<HeldClient, Global>
+fn into_slot(alloc: Global, handle: ClientHandle) -> Slot<HeldClient, Global>
     ensures { result.value ≡ handle.value }
 {
     let ClientHandle { at } = handle;
     Slot {
         at: at as *mut HeldClient,
         alloc,
-    }
-}
-
-pub(crate) fn full(held: Box<HeldClient>) -> YtClient
-    ensures { result.inner.value ≡ Some held.value }
-{
-    YtClient {
-        inner: handle_of(Slot::of(held)),
-        full: true,
-    }
-}
-
-/// Takes out what a handle holds; then it holds none.
-pub(crate) fn taken(alloc: Global, handle: &mut YtClient) -> Option<Box<HeldClient>>
-    ensures held { IfSome result (λ b. handle.old.inner.value ≡ Some b.value) }
-    ensures none_held { IfNone result (handle.old.inner.value ≡ None) }
-    ensures none { handle.new.inner.value ≡ None }
-{
-    let none = YtClient {
-        inner: handle_of(Slot::empty(alloc)),
-        full: false,
-    };
-    let YtClient {
-        inner,
-        full: is_full,
-    } = std::mem::replace(handle, none);
-    if is_full {
-        Some(slot_of(alloc, inner).into_box())
-    } else {
-        None
     }
 }

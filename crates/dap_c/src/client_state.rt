@@ -6,10 +6,11 @@ ghost use Rattle.dap_client.specs.StandsFor.{StandsFor};
 ghost use Rattle.dap_client.specs.declared.fault.ClientFault.{ClientFault as TheFault};
 ghost use Rattle.dap_c.specs.ClientSeen.{IsStateOf, IsStateIn, IsWithin, AreFlagsOf, phase_number};
 
-use crate::client_handle::{YtClient, full, taken};
+use crate::client_handle::YtClient;
 use dap_c_parts::codes::{YT_NONE, YT_OK};
 use dap_client::{Client, Phase};
 use dap_command::Capabilities;
+use dap_slot::{handle_of, take_out};
 use std::alloc::Global;
 
 /// What is seen of a client.
@@ -97,11 +98,11 @@ pub extern "C" fn yt_client_state(
     ensures within { IfSome client.old.inner.value (λ c. IsWithin state.new c.client.session.limits) }
     ensures closed { (fault : TheFault) → IfSome client.old.inner.value (λ c. c.client.fault ≡ Some fault → state.new.held ≡ 0) }
 {
-    let Some(held) = taken(alloc, client) else {
+    let Some(held) = take_out(alloc, client) else {
         return YT_NONE;
     };
     *state = state_of(&held.client);
-    *client = full(held);
+    *client = handle_of(held);
     YT_OK
 }
 
@@ -137,10 +138,10 @@ pub extern "C" fn yt_client_capabilities(
     ensures value { IfSome client.old.inner.value (λ c. AreFlagsOf capabilities.new c.client.session.seen.capabilities) }
     ensures seen { IfSome client.old.inner.value (λ c. (s : List ℕ) (h : List Entry) → StandsFor c.client s h → AreFlagsOf capabilities.new (capabilities_in h)) }
 {
-    let Some(held) = taken(alloc, client) else {
+    let Some(held) = take_out(alloc, client) else {
         return YT_NONE;
     };
     *capabilities = flags_of(held.client.capabilities());
-    *client = full(held);
+    *client = handle_of(held);
     YT_OK
 }

@@ -2,14 +2,15 @@
 //!
 //! Pieces of a stream come in, and the bodies in it go out one by one. What a reader is and does is in `dap_frame`; each
 //! export has the clauses of its function there. Only the reader behind the handle and the caller's buffer are touched.
-ghost use Rattle.std.specs.Prelude.{◌≡◌, ◌<◌, ◌≤◌, List, [], ◌++◌, ℕ, length, drop, IfOk, IfErr, OnOk, Option, Some, None, IsSome, IfSome, IfNone, is_some};
+ghost use Rattle.std.specs.Prelude.{◌≡◌, ◌<◌, ◌≤◌, List, [], ◌++◌, ℕ, length, drop, IfOk, IfErr, OnOk, Option, Some, None, IsSome, IfSome, is_some};
 ghost use Rattle.dap_frame.specs.Feeds.{Completes, Gathers};
 ghost use Rattle.dap_frame.specs.Intake.{Intake, IsReady, IsUnderWay, IsGivenUp, StandsFor};
 ghost use Rattle.dap_frame.specs.Intake.{IsClosed};
 ghost use Rattle.dap_frame.specs.Settings.{bounds_of, first_outside};
 ghost use Rattle.dap_frame.specs.declared.Refusal.{Refusal};
 ghost use Rattle.dap_c_parts.specs.Behind.{FromTo};
-ghost use Rattle.dap_c.specs.FramesHandled.{handle_owns};
+ghost use Rattle.dap_frame.specs.contracts.frames.Frames.{the_row};
+ghost use Rattle.dap_slot.specs.Owned.{handle_owns};
 ghost use Rattle.dap_c_parts.specs.Limited.{settings_of};
 ghost use Rattle.dap_c.specs.Refused.{end_number, ClosesWith, IsRefusedAgain, EndsWithCode};
 
@@ -21,7 +22,7 @@ use dap_c_parts::codes::{
 use dap_c_parts::copying::put;
 use dap_c_parts::limits::{self, YtLimits};
 use dap_frame::{End, FrameFault, Frames};
-use dap_slot::Slot;
+use dap_slot::{Handle, Slot, handle_of, take_out};
 use std::alloc::Global;
 use std::marker::Model;
 
@@ -34,7 +35,7 @@ pub struct FramesHandle {
 }
 
 impl Model for FramesHandle {
-    ghost also_owns = { λ h. handle_owns h.at h.value };
+    ghost also_owns = { λ h. handle_owns the_row h.at h.value };
 }
 
 /// A reader, or none. All zero is none.
@@ -61,52 +62,41 @@ pub struct YtFed {
     pub cause: u32,
 }
 
-/// The slot as a handle.
-fn handle_of(slot: Slot<Frames, Global>) -> FramesHandle
+impl Handle for YtFrames {
+    type Held = Frames;
+
+    ghost value = { λ h. h.inner.value };
+
+    fn from_slot(slot: Slot<Frames, Global>, full: bool) -> YtFrames
+        requires { full ≡ is_some slot.value }
+        ensures { result.inner.value ≡ slot.value }
+    {
+        YtFrames {
+            inner: from_slot(slot),
+            full,
+        }
+    }
+
+    fn into_slot(self, alloc: Global) -> (Slot<Frames, Global>, bool) {
+        let YtFrames { inner, full } = self;
+        (into_slot(alloc, inner), full)
+    }
+}
+
+fn from_slot(slot: Slot<Frames, Global>) -> FramesHandle
     ensures { result.value ≡ slot.value }
 {
     let Slot { at, alloc: _ } = slot;
     FramesHandle { at: at as *mut u8 }
 }
 
-/// The handle as a slot.
-fn slot_of(alloc: Global, handle: FramesHandle) -> Slot<Frames, Global>
+fn into_slot(alloc: Global, handle: FramesHandle) -> Slot<Frames, Global>
     ensures { result.value ≡ handle.value }
 {
     let FramesHandle { at } = handle;
     Slot {
         at: at as *mut Frames,
         alloc,
-    }
-}
-
-fn full(frames: Box<Frames>) -> YtFrames
-    ensures { result.inner.value ≡ Some frames.value }
-{
-    YtFrames {
-        inner: handle_of(Slot::of(frames)),
-        full: true,
-    }
-}
-
-/// Takes out what a handle holds; then it holds none.
-fn taken(alloc: Global, handle: &mut YtFrames) -> Option<Box<Frames>>
-    ensures held { IfSome result (λ b. handle.old.inner.value ≡ Some b.value) }
-    ensures none_held { IfNone result (handle.old.inner.value ≡ None) }
-    ensures none { handle.new.inner.value ≡ None }
-{
-    let none = YtFrames {
-        inner: handle_of(Slot::empty(alloc)),
-        full: false,
-    };
-    let YtFrames {
-        inner,
-        full: is_full,
-    } = std::mem::replace(handle, none);
-    if is_full {
-        Some(slot_of(alloc, inner).into_box())
-    } else {
-        None
     }
 }
 
@@ -145,10 +135,10 @@ pub extern "C" fn yt_frames_open(alloc: Global, frames: &mut YtFrames, limits: &
     ensures in_range { result ≡ YT_OK → first_outside (settings_of limits.now) ≡ None }
     ensures codes { (result ≡ YT_OK → ⊥) → (result ≡ YT_BAD_LIMITS → ⊥) → result ≡ YT_NO_MEMORY }
 {
-    taken(alloc, frames);
+    take_out(alloc, frames);
     match opened(alloc, limits) {
         Ok(held) => {
-            *frames = full(held);
+            *frames = handle_of(held);
             YT_OK
         }
         Err(code) => code,
@@ -160,7 +150,7 @@ pub extern "C" fn yt_frames_open(alloc: Global, frames: &mut YtFrames, limits: &
 pub extern "C" fn yt_frames_free(alloc: Global, frames: &mut YtFrames)
     ensures { frames.new.inner.value ≡ None }
 {
-    drop(taken(alloc, frames));
+    drop(take_out(alloc, frames));
 }
 
 /// What a piece did to a reader, with its code.
@@ -226,11 +216,11 @@ pub extern "C" fn yt_frames_feed(
     ensures given_up { FromTo frames.old.inner.value frames.new.inner.value (λ f g. IsGivenUp f → (g ≡ f) × (result ≡ YT_OK) × (fed.new.used ≡ 0)) }
     ensures latched { (cause : Refusal) → FromTo frames.old.inner.value frames.new.inner.value (λ f g. IsClosed f cause → IsRefusedAgain f g cause result fed.new.cause fed.new.offset) }
 {
-    let Some(mut held) = taken(alloc, frames) else {
+    let Some(mut held) = take_out(alloc, frames) else {
         return YT_NONE;
     };
     let code = feed(&mut *held, piece, fed);
-    *frames = full(held);
+    *frames = handle_of(held);
     code
 }
 
@@ -259,11 +249,11 @@ pub extern "C" fn yt_frames_body(alloc: Global, frames: &mut YtFrames, out: &mut
     ensures nothing { IfSome frames.old.inner.value (λ f. result ≡ YT_NOTHING → (IsReady f → ⊥) × (out.new ≡ out.old)) }
     ensures codes { IsSome frames.old.inner.value → (result ≡ YT_OK → ⊥) → (result ≡ YT_SMALL → ⊥) → result ≡ YT_NOTHING }
 {
-    let Some(mut held) = taken(alloc, frames) else {
+    let Some(mut held) = take_out(alloc, frames) else {
         return YT_NONE;
     };
     let code = put_body(&mut *held, out);
-    *frames = full(held);
+    *frames = handle_of(held);
     code
 }
 
@@ -277,11 +267,11 @@ pub extern "C" fn yt_frames_release(alloc: Global, frames: &mut YtFrames) -> u32
     ensures stands { FromTo frames.old.inner.value frames.new.inner.value (λ f g. (s : List ℕ) (xs : List (List ℕ)) (rest : List ℕ) → StandsFor f s xs rest → StandsFor g s xs rest) }
     ensures other { FromTo frames.old.inner.value frames.new.inner.value (λ f g. (IsReady f → ⊥) → g ≡ f) }
 {
-    let Some(mut held) = taken(alloc, frames) else {
+    let Some(mut held) = take_out(alloc, frames) else {
         return YT_NONE;
     };
     held.release();
-    *frames = full(held);
+    *frames = handle_of(held);
     YT_OK
 }
 
@@ -296,11 +286,11 @@ pub extern "C" fn yt_frames_finish(alloc: Global, frames: &mut YtFrames) -> u32
     ensures given_up { IfSome frames.old.inner.value (λ f. IsGivenUp f → result ≡ YT_FRAME) }
     ensures under_way { IfSome frames.old.inner.value (λ f. IsUnderWay f → result ≡ YT_FRAME → ⊥) }
 {
-    let Some(held) = taken(alloc, frames) else {
+    let Some(held) = take_out(alloc, frames) else {
         return YT_NONE;
     };
     let end = end_code(held.finish());
-    *frames = full(held);
+    *frames = handle_of(held);
     end
 }
 

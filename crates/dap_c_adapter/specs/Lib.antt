@@ -1,5 +1,4 @@
 pub mod Acts
 pub mod AdapterCalls
 pub mod AdapterFaults
-pub mod AdapterHandled
 pub mod AdapterSeen

@@ -5,13 +5,14 @@ ghost use Rattle.dap_c_adapter.specs.Acts.{IsActFound, how_number, path_of, refe
 ghost use Rattle.dap_c_adapter.specs.AdapterCalls.{KeepsSession};
 ghost use Rattle.dap_c_parts.specs.Behind.{FromTo};
 
-use crate::adapter_handle::{YtAdapter, full, taken};
+use crate::adapter_handle::YtAdapter;
 use crate::held_adapter::HeldAdapter;
 use dap_c_parts::codes::{YT_NO_MEMORY, YT_NONE, YT_NOTHING, YT_OK, YT_SMALL};
 use dap_c_parts::copying::{put, put_numbers};
 use dap_command::SourceKey;
 use dap_debuggee::How;
 use dap_live::HostAct;
+use dap_slot::{handle_of, take_out};
 use std::alloc::Global;
 
 /// What the host has to do.
@@ -153,11 +154,11 @@ pub extern "C" fn yt_adapter_act(alloc: Global, adapter: &mut YtAdapter, act: &m
     ensures same { FromTo adapter.old.inner.value adapter.new.inner.value (λ a b. KeepsSession a b) }
     ensures codes { IsSome adapter.old.inner.value → (result ≡ YT_OK → ⊥) → (result ≡ YT_NOTHING → ⊥) → result ≡ YT_NO_MEMORY }
 {
-    let Some(mut held) = taken(alloc, adapter) else {
+    let Some(mut held) = take_out(alloc, adapter) else {
         return YT_NONE;
     };
     let code = next_act(alloc, &mut *held, act);
-    *adapter = full(held);
+    *adapter = handle_of(held);
     code
 }
 
@@ -177,11 +178,11 @@ pub extern "C" fn yt_adapter_lines(alloc: Global, adapter: &mut YtAdapter, out: 
     ensures same { adapter.new.inner.value ≡ adapter.old.inner.value }
     ensures puts { IfSome adapter.old.inner.value (λ a. PutsPart (lines_of a.act) result out.old out.new) }
 {
-    let Some(held) = taken(alloc, adapter) else {
+    let Some(held) = take_out(alloc, adapter) else {
         return YT_NONE;
     };
     let code = put_lines(&held.act, out);
-    *adapter = full(held);
+    *adapter = handle_of(held);
     code
 }
 
@@ -206,11 +207,11 @@ pub extern "C" fn yt_adapter_source(alloc: Global, adapter: &mut YtAdapter, out:
     ensures same { adapter.new.inner.value ≡ adapter.old.inner.value }
     ensures puts { IfSome adapter.old.inner.value (λ a. PutsPart (source_of a.act) result out.old out.new) }
 {
-    let Some(held) = taken(alloc, adapter) else {
+    let Some(held) = take_out(alloc, adapter) else {
         return YT_NONE;
     };
     let code = put_source(&held.act, out);
-    *adapter = full(held);
+    *adapter = handle_of(held);
     code
 }
 
@@ -230,11 +231,11 @@ pub extern "C" fn yt_adapter_name(alloc: Global, adapter: &mut YtAdapter, out: &
     ensures same { adapter.new.inner.value ≡ adapter.old.inner.value }
     ensures puts { IfSome adapter.old.inner.value (λ a. PutsPart (variable_of a.act) result out.old out.new) }
 {
-    let Some(held) = taken(alloc, adapter) else {
+    let Some(held) = take_out(alloc, adapter) else {
         return YT_NONE;
     };
     let code = put_name(&held.act, out);
-    *adapter = full(held);
+    *adapter = handle_of(held);
     code
 }
 
@@ -254,10 +255,10 @@ pub extern "C" fn yt_adapter_value(alloc: Global, adapter: &mut YtAdapter, out: 
     ensures same { adapter.new.inner.value ≡ adapter.old.inner.value }
     ensures puts { IfSome adapter.old.inner.value (λ a. PutsPart (value_of a.act) result out.old out.new) }
 {
-    let Some(held) = taken(alloc, adapter) else {
+    let Some(held) = take_out(alloc, adapter) else {
         return YT_NONE;
     };
     let code = put_value(&held.act, out);
-    *adapter = full(held);
+    *adapter = handle_of(held);
     code
 }

@@ -18,7 +18,7 @@ ghost use Rattle.dap_c_parts.specs.Behind.{FromTo};
 ghost use Rattle.dap_c_parts.specs.Finds.{FindsNothing};
 ghost use Rattle.dap_c_parts.specs.Limited.{settings_of};
 
-use crate::adapter_handle::{YtAdapter, full, taken};
+use crate::adapter_handle::YtAdapter;
 use crate::held_adapter::HeldAdapter;
 use crate::telling::recording_given;
 use dap_adapter::{Adapter, AdapterFault, Taken, Turned};
@@ -30,6 +30,7 @@ use dap_c_parts::limits::{self, YtLimits};
 use dap_frame::Limits;
 use dap_live::{Live, Mail};
 use dap_replay::Recorded;
+use dap_slot::{handle_of, take_out};
 use std::alloc::Global;
 use std::rc::Rc;
 
@@ -122,10 +123,10 @@ pub extern "C" fn yt_adapter_open(
     ensures no_recording { result ≡ YT_BAD_RECORDING → IsNoRecording (json_of base.now) }
     ensures codes { (result ≡ YT_OK → ⊥) → IsCodeOfOpen result }
 {
-    taken(alloc, adapter);
+    take_out(alloc, adapter);
     match opened(alloc, limits, base) {
         Ok(held) => {
-            *adapter = full(held);
+            *adapter = handle_of(held);
             YT_OK
         }
         Err(code) => code,
@@ -137,7 +138,7 @@ pub extern "C" fn yt_adapter_open(
 pub extern "C" fn yt_adapter_free(alloc: Global, adapter: &mut YtAdapter)
     ensures { adapter.new.inner.value ≡ None }
 {
-    drop(taken(alloc, adapter));
+    drop(take_out(alloc, adapter));
 }
 
 pub(crate) fn adapter_code(fault: AdapterFault) -> u32
@@ -286,11 +287,11 @@ pub extern "C" fn yt_adapter_take(
     ensures gathered { FromTo adapter.old.inner.value adapter.new.inner.value (λ a b. b.variables ≡ a.variables) }
     ensures latched { (fault : TheFault) → FromTo adapter.old.inner.value adapter.new.inner.value (λ a b. a.adapter.fault ≡ Some fault → ((result ≡ YT_NO_MEMORY) ⊎ (result ≡ adapter_number fault)) × (b.adapter ≡ a.adapter)) }
 {
-    let Some(mut held) = taken(alloc, adapter) else {
+    let Some(mut held) = take_out(alloc, adapter) else {
         return YT_NONE;
     };
     let code = take_piece(alloc, &mut *held, piece, found);
-    *adapter = full(held);
+    *adapter = handle_of(held);
     code
 }
 
@@ -366,11 +367,11 @@ pub extern "C" fn yt_adapter_turn(
     ensures acts { FromTo adapter.old.inner.value adapter.new.inner.value (λ a b. KeepsActs a b) }
     ensures gathered { FromTo adapter.old.inner.value adapter.new.inner.value (λ a b. b.variables ≡ a.variables) }
 {
-    let Some(mut held) = taken(alloc, adapter) else {
+    let Some(mut held) = take_out(alloc, adapter) else {
         return YT_NONE;
     };
     let code = turn(alloc, &mut *held, found);
-    *adapter = full(held);
+    *adapter = handle_of(held);
     code
 }
 
@@ -383,11 +384,11 @@ pub extern "C" fn yt_adapter_bytes(alloc: Global, adapter: &mut YtAdapter, out: 
     ensures small { IfSome adapter.old.inner.value (λ a. result ≡ YT_SMALL → (length out.old < length a.bytes.items) × (out.new ≡ out.old)) }
     ensures codes { IsSome adapter.old.inner.value → (result ≡ YT_SMALL → ⊥) → result ≡ YT_OK }
 {
-    let Some(held) = taken(alloc, adapter) else {
+    let Some(held) = take_out(alloc, adapter) else {
         return YT_NONE;
     };
     let code = put(held.bytes.as_slice(), out);
-    *adapter = full(held);
+    *adapter = handle_of(held);
     code
 }
 
@@ -415,10 +416,10 @@ pub extern "C" fn yt_adapter_frame(alloc: Global, adapter: &mut YtAdapter, out: 
     ensures nothing { IfSome adapter.old.inner.value (λ a. result ≡ YT_NOTHING → (a.whole ≡ false) × (out.new ≡ out.old)) }
     ensures codes { IsSome adapter.old.inner.value → (result ≡ YT_OK → ⊥) → (result ≡ YT_SMALL → ⊥) → result ≡ YT_NOTHING }
 {
-    let Some(held) = taken(alloc, adapter) else {
+    let Some(held) = take_out(alloc, adapter) else {
         return YT_NONE;
     };
     let code = put_frame(&*held, out);
-    *adapter = full(held);
+    *adapter = handle_of(held);
     code
 }

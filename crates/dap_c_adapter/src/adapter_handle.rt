@@ -1,12 +1,13 @@
-//! The handle of an adapter: an adapter comes in and goes out, and only the handle is touched.
-ghost use Rattle.std.specs.Prelude.{◌≡◌, Option, Some, None, IfSome, IfNone, is_some};
+//! The handle of an adapter, as it crosses to C.
+ghost use Rattle.std.specs.Prelude.{◌≡◌, Option, is_some};
 ghost use Rattle.std.specs.Coded.{codes};
 ghost use Rattle.dap_json.specs.Stored.{coded_data};
 ghost use Rattle.dap_c_adapter.specs.declared.held_adapter.HeldAdapter.{HeldAdapter};
-ghost use Rattle.dap_c_adapter.specs.AdapterHandled.{handle_owns};
+ghost use Rattle.dap_c_adapter.specs.contracts.held_adapter.HeldAdapter.{the_row};
+ghost use Rattle.dap_slot.specs.Owned.{handle_owns};
 
 use crate::held_adapter::HeldAdapter;
-use dap_slot::Slot;
+use dap_slot::{Handle, Slot};
 use std::alloc::Global;
 use std::marker::Model;
 
@@ -19,7 +20,7 @@ pub struct AdapterHandle {
 }
 
 impl Model for AdapterHandle {
-    ghost also_owns = { λ h. handle_owns h.at h.value };
+    ghost also_owns = { λ h. handle_owns the_row h.at h.value };
 }
 
 /// An adapter, or none. All zero is none.
@@ -31,51 +32,40 @@ pub struct YtAdapter {
     ghost held: { full ≡ is_some inner.value },
 }
 
-/// The slot as a handle.
-fn handle_of(slot: Slot<HeldAdapter, Global>) -> AdapterHandle
+impl Handle for YtAdapter {
+    type Held = HeldAdapter;
+
+    ghost value = { λ h. h.inner.value };
+
+    fn from_slot(slot: Slot<HeldAdapter, Global>, full: bool) -> YtAdapter
+        requires { full ≡ is_some slot.value }
+        ensures { result.inner.value ≡ slot.value }
+    {
+        YtAdapter {
+            inner: from_slot(slot),
+            full,
+        }
+    }
+
+    fn into_slot(self, alloc: Global) -> (Slot<HeldAdapter, Global>, bool) {
+        let YtAdapter { inner, full } = self;
+        (into_slot(alloc, inner), full)
+    }
+}
+
+fn from_slot(slot: Slot<HeldAdapter, Global>) -> AdapterHandle
     ensures { result.value ≡ slot.value }
 {
     let Slot { at, alloc: _ } = slot;
     AdapterHandle { at: at as *mut u8 }
 }
 
-/// The handle as a slot.
-fn slot_of(alloc: Global, handle: AdapterHandle) -> Slot<HeldAdapter, Global>
+fn into_slot(alloc: Global, handle: AdapterHandle) -> Slot<HeldAdapter, Global>
     ensures { result.value ≡ handle.value }
 {
     let AdapterHandle { at } = handle;
     Slot {
         at: at as *mut HeldAdapter,
         alloc,
-    }
-}
-
-pub(crate) fn full(held: Box<HeldAdapter>) -> YtAdapter
-    ensures { result.inner.value ≡ Some held.value }
-{
-    YtAdapter {
-        inner: handle_of(Slot::of(held)),
-        full: true,
-    }
-}
-
-/// Takes out what a handle holds; then it holds none.
-pub(crate) fn taken(alloc: Global, handle: &mut YtAdapter) -> Option<Box<HeldAdapter>>
-    ensures held { IfSome result (λ b. handle.old.inner.value ≡ Some b.value) }
-    ensures none_held { IfNone result (handle.old.inner.value ≡ None) }
-    ensures none { handle.new.inner.value ≡ None }
-{
-    let none = YtAdapter {
-        inner: handle_of(Slot::empty(alloc)),
-        full: false,
-    };
-    let YtAdapter {
-        inner,
-        full: is_full,
-    } = std::mem::replace(handle, none);
-    if is_full {
-        Some(slot_of(alloc, inner).into_box())
-    } else {
-        None
     }
 }

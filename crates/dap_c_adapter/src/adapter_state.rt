@@ -4,11 +4,12 @@ ghost use Rattle.dap_plan.specs.declared.fault.AdapterFault.{AdapterFault as The
 ghost use Rattle.dap_tables.specs.References.{target_of};
 ghost use Rattle.dap_c_adapter.specs.AdapterSeen.{IsAdapterState, IsWithin, IsTarget, phase_number, kind_number};
 
-use crate::adapter_handle::{YtAdapter, full, taken};
+use crate::adapter_handle::YtAdapter;
 use crate::held_adapter::HeldAdapter;
 use dap_adapter::{Adapter, Phase, ReferenceKind};
 use dap_c_parts::codes::{YT_NONE, YT_NOTHING, YT_OK};
 use dap_live::Live;
+use dap_slot::{handle_of, take_out};
 use std::alloc::Global;
 
 /// What is seen of an adapter.
@@ -93,11 +94,11 @@ pub extern "C" fn yt_adapter_state(
     ensures within { IfSome adapter.old.inner.value (λ a. IsWithin state.new a.adapter.session.limits) }
     ensures closed { (fault : TheFault) → IfSome adapter.old.inner.value (λ a. a.adapter.fault ≡ Some fault → state.new.held ≡ 0) }
 {
-    let Some(held) = taken(alloc, adapter) else {
+    let Some(held) = take_out(alloc, adapter) else {
         return YT_NONE;
     };
     *state = state_of(&held.adapter);
-    *adapter = full(held);
+    *adapter = handle_of(held);
     YT_OK
 }
 
@@ -133,10 +134,10 @@ pub extern "C" fn yt_adapter_target(
     ensures some { IfSome adapter.old.inner.value (λ a. result ≡ YT_OK → IsSome (target_of a.adapter.session.references number)) }
     ensures nothing { IfSome adapter.old.inner.value (λ a. (result ≡ YT_OK → ⊥) → (result ≡ YT_NOTHING) × (target_of a.adapter.session.references number ≡ None) × (target.new ≡ target.old)) }
 {
-    let Some(held) = taken(alloc, adapter) else {
+    let Some(held) = take_out(alloc, adapter) else {
         return YT_NONE;
     };
     let code = find_target(&*held, number, target);
-    *adapter = full(held);
+    *adapter = handle_of(held);
     code
 }

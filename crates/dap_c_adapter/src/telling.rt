@@ -14,7 +14,7 @@ ghost use Rattle.dap_c_adapter.specs.AdapterFaults.{adapter_number, IsAdapterFau
 ghost use Rattle.dap_c_parts.specs.Behind.{FromTo};
 
 use crate::adapter::{adapter_code, adapter_fault_found, only_bytes};
-use crate::adapter_handle::{YtAdapter, full, taken};
+use crate::adapter_handle::YtAdapter;
 use crate::held_adapter::HeldAdapter;
 use dap_c_parts::codes::*;
 use dap_c_parts::found::YtFound;
@@ -23,6 +23,7 @@ use dap_json::{List, Text};
 use dap_live::{Coming, Dropped, Mail};
 use dap_recording::RecordingFault;
 use dap_replay::Recorded;
+use dap_slot::{handle_of, take_out};
 use std::alloc::Global;
 
 fn told_code(mail: &Mail) -> u32
@@ -117,11 +118,11 @@ fn tell_handle(
     ensures acts { FromTo adapter.old.inner.value adapter.new.inner.value (λ a b. KeepsActs a b) }
     ensures gathered { FromTo adapter.old.inner.value adapter.new.inner.value (λ a b. b.variables ≡ a.variables) }
 {
-    let Some(mut held) = taken(alloc, adapter) else {
+    let Some(mut held) = take_out(alloc, adapter) else {
         return YT_NONE;
     };
     let code = tell_given(alloc, &mut *held, coming, found);
-    *adapter = full(held);
+    *adapter = handle_of(held);
     code
 }
 
@@ -405,12 +406,12 @@ pub extern "C" fn yt_adapter_variable(
     ensures refused { FromTo adapter.old.inner.value adapter.new.inner.value (λ a b. (result ≡ YT_OK → ⊥) → b.variables.items ≡ a.variables.items) }
     ensures wanted { IsUtf8 name.now → IsUtf8 value.now → result ≡ YT_BAD_ARGUMENTS → ⊥ }
 {
-    let Some(mut held) = taken(alloc, adapter) else {
+    let Some(mut held) = take_out(alloc, adapter) else {
         return YT_NONE;
     };
     let variable = variable_given(alloc, name, value, holder_given(has_parts, holder));
     let code = keep_variable(&mut *held, variable);
-    *adapter = full(held);
+    *adapter = handle_of(held);
     code
 }
 
@@ -451,11 +452,11 @@ pub extern "C" fn yt_adapter_variables(
     ensures acts { FromTo adapter.old.inner.value adapter.new.inner.value (λ a b. KeepsActs a b) }
     ensures none_gathered { FromTo adapter.old.inner.value adapter.new.inner.value (λ a b. b.variables.items ≡ []) }
 {
-    let Some(mut held) = taken(alloc, adapter) else {
+    let Some(mut held) = take_out(alloc, adapter) else {
         return YT_NONE;
     };
     let code = tell_variables(alloc, &mut *held, holder, found);
-    *adapter = full(held);
+    *adapter = handle_of(held);
     code
 }
 

@@ -1,5 +1,4 @@
 pub mod Behind
 pub mod Causes
 pub mod Finds
-pub mod Heap
 pub mod Limited
