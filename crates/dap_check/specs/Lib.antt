@@ -12,5 +12,3 @@ pub mod ReadingLaws
 pub mod PrivateKept
 pub mod PrivateOpen
 pub mod PrivateBare
-pub mod Checking
-pub mod PrivateJudged

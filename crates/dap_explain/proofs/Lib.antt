@@ -1,5 +1,4 @@
 pub mod Outcomes
-pub mod FoundLines
 pub mod TrailLemmas
 pub mod AskedLemmas
 pub mod DecisionLemmas
