@@ -1,7 +1,8 @@
-use Rattle.std.proofs.Common.{List, Some, sym, ap, ◌∙◌, to_z, of_z, w64, rules}
+use Rattle.std.proofs.Common.{◌≡◌, List, Some, None, sym, ap, ◌∙◌, to_z, of_z, w64, rules}
 use Rattle.dap_debuggee.specs.declared.answers.Happening.{Happening}
 use Rattle.dap_replay.specs.Played.{OfHolder}
 use Rattle.dap_live.specs.declared.here.Here.{Here}
+use Rattle.dap_live.specs.Dropping.{why_dropped}
 use Rattle.dap_live.specs.LiveShown.{LiveState}
 use Rattle.dap_live.proofs.Drops.{each_drop}
 use Rattle.dap_live.proofs.held.Live.stop.Goals as goal
@@ -20,8 +21,9 @@ returns-clause-shows c = λ is.
 
 pub returns-clause-follows : goal.returns-clause-follows
 returns-clause-follows c =
+    let clear : why_dropped c.args.self.now.state (Happening.Stopped c.args.reason (to_z w64 (of_z w64 c.args.thread))) ≡ None = search rules in
     record {
-      may = search rules;
+      may = ((each_drop c.args.self.now.state (Happening.Stopped c.args.reason (to_z w64 (of_z w64 c.args.thread)))).0 clear).0;
       reply = search rules;
       state = search rules;
       acts = search rules;
