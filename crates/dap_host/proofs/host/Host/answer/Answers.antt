@@ -6,7 +6,7 @@ use Rattle.dap_host.proofs.host.Host.answer.Goals as goal
 pub returns-in-Ok-clause-answers : goal.returns-in-Ok-clause-answers
 returns-in-Ok-clause-answers c = on_ok_weaker c.hand_out.result (λ out.
     answered_at _ c.args.self.now _ c.args.body.now c.new-bytes.result.items c.answer_body.new.out.items c.args.out.now.items c.hand_out.new.out.items c.in-Ok._ended c.self.view_is c.requires.going c.limits_are_in_range.ensures c.bodies_come_one_by_one.ensures c.requires.takes
-    c.new-bytes.ensures.items c.in-Ok.ensures.answers (λ outs are. out outs (c.deref-in-Ok.ensures.value ∙ are)) (record { sources = refl; limits = refl; longest = refl; number = refl })) c.hand_out.ensures.out
+    c.new-bytes.ensures.items c.in-Ok.ensures.answers (λ outs are. out outs (c.deref.ensures.value ∙ are)) (record { sources = refl; limits = refl; longest = refl; number = refl })) c.hand_out.ensures.out
 
 pub returns-in-Ok-clause-going : goal.returns-in-Ok-clause-going
 returns-in-Ok-clause-going c = on_ok_weaker c.hand_out.result (λ out.
