@@ -1,6 +1,6 @@
 -- The frames of what is shown name sources that are there; what happens but a stop leaves what is shown, and the sources.
-use Rattle.std.proofs.Common.{◌≡◌, ◌≤◌, length, Option, Some, None, refl, sym, ap, subst, ◌∙◌, arith, inl}
-use Rattle.dap_debuggee.specs.Laws.{FramesInRange}
+use Rattle.std.proofs.Common.{◌≡◌, ◌≤◌, length, Option, Some, None, IsTrue, refl, sym, ap, subst, ◌∙◌, arith, inl}
+use Rattle.dap_debuggee.specs.Laws.{may_answer, may_happen, FramesInRange}
 use Rattle.dap_debuggee.specs.declared.answers.State.{State}
 use Rattle.dap_debuggee.specs.declared.answers.State.TheVariants.{NotStarted, Running, Stopped, Gone}
 use Rattle.dap_replay.specs.Played.{Played, shown_of, with_sources_of}
@@ -56,3 +56,10 @@ none_learned known (happening.Output category text) = refl
 none_learned known (happening.Stopped reason thread) = refl
 none_learned known (happening.Continued thread) = refl
 none_learned known (happening.Exited code) = refl
+
+-- what may happen may be told by a poll
+pub may_tell : (s : State) (h : Happening) → IsTrue (may_happen s h) → IsTrue (may_answer s to_poll (happened h))
+may_tell NotStarted h may = may
+may_tell Running h may = may
+may_tell Stopped h may = may
+may_tell Gone h may = may

@@ -5,6 +5,7 @@ use Rattle.dap_live.specs.declared.here.Here.{Here}
 use Rattle.dap_live.specs.Dropping.{why_dropped}
 use Rattle.dap_live.specs.LiveShown.{LiveState}
 use Rattle.dap_live.proofs.Drops.{each_drop}
+use Rattle.dap_live.proofs.Shows.{may_tell}
 use Rattle.dap_live.proofs.held.Live.stop.Goals as goal
 
 pub returns-clause-in_range : goal.returns-clause-in_range
@@ -21,9 +22,10 @@ returns-clause-shows c = λ is.
 
 pub returns-clause-follows : goal.returns-clause-follows
 returns-clause-follows c =
-    let clear : why_dropped c.args.self.now.state (Happening.Stopped c.args.reason (to_z w64 (of_z w64 c.args.thread))) ≡ None = search rules in
+    let stopped : Happening = Happening.Stopped c.args.reason (to_z w64 (of_z w64 c.args.thread)) in
+    let clear : why_dropped c.args.self.now.state stopped ≡ None = search rules in
     record {
-      may = ((each_drop c.args.self.now.state (Happening.Stopped c.args.reason (to_z w64 (of_z w64 c.args.thread)))).0 clear).0;
+      may = may_tell c.args.self.now.state stopped ((each_drop c.args.self.now.state stopped).0 clear).0;
       reply = search rules;
       state = search rules;
       acts = search rules;
