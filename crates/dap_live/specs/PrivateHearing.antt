@@ -1,7 +1,7 @@
 -- What comes of what a host says: what is told, why it is dropped, and what is known and shown then. Only private clauses cite this file.
 use Rattle.std.specs.Prelude.{◌≡◌, ◌≢◌, ℕ, List, Option, Some, None, IsTrue}
 use Rattle.std.specs.Option.{IsSome}
-use Rattle.dap_debuggee.specs.Laws.{variable_named, with_value}
+use Rattle.dap_debuggee.specs.Laws.{with_value}
 use Rattle.dap_debuggee.specs.declared.answers.Happening.{Happening}
 use Rattle.dap_debuggee.specs.declared.answers.Happening.TheVariants as happening
 use Rattle.dap_debuggee.specs.declared.answers.Variable.{Variable}
@@ -39,42 +39,60 @@ happening_by (coming.Learned text value holder) = happening.Nothing
 happening_by (coming.Variables holder variables) = happening.Nothing
 happening_by (coming.Sources more) = happening.Nothing
 
--- what a poll gives of it: just that, unless it is dropped
-abbrev pub told_by : Coming → LiveState → Happening
-told_by c v = unless_dropped (why_unheard c v) (happening_by c)
+-- why a host that said this, or nothing, is not heard
+abbrev pub why_not_heard : Option Coming → LiveState → Option Dropped
+why_not_heard None v = None
+why_not_heard (Some c) v = why_unheard c v
+
+-- what a poll gives of it: just that, unless it is dropped; nothing where nothing came
+abbrev pub told_by : Option Coming → LiveState → Happening
+told_by None v = happening.Nothing
+told_by (Some c) v = unless_dropped (why_unheard c v) (happening_by c)
 
 -- what is known of a text then: nothing but what was told with it
-abbrev pub learned_by : Coming → Option Learned
-learned_by (coming.Output category text) = None
-learned_by (coming.Stopped reason thread shows later) = None
-learned_by (coming.Continued thread) = None
-learned_by (coming.Exited code) = None
-learned_by (coming.Learned text value holder) = Some (record { text = text; value = value; holder = holder })
-learned_by (coming.Variables holder variables) = None
-learned_by (coming.Sources more) = None
+abbrev pub learned_with : Coming → Option Learned
+learned_with (coming.Output category text) = None
+learned_with (coming.Stopped reason thread shows later) = None
+learned_with (coming.Continued thread) = None
+learned_with (coming.Exited code) = None
+learned_with (coming.Learned text value holder) = Some (record { text = text; value = value; holder = holder })
+learned_with (coming.Variables holder variables) = None
+learned_with (coming.Sources more) = None
+
+abbrev pub learned_by : Option Coming → Option Learned
+learned_by None = None
+learned_by (Some c) = learned_with c
 
 -- the moment of a stop is shown, and variables that are told, where they are not dropped; else what was
-abbrev pub ShowsBy : Coming → Option Dropped → Option Here → Option Here → Type 0
-ShowsBy (coming.Output category text) why before after = after ≡ before
-ShowsBy (coming.Stopped reason thread shows later) None before after = ShowsFirst shows later after
-ShowsBy (coming.Stopped reason thread shows later) (Some why) before after = after ≡ before
-ShowsBy (coming.Continued thread) why before after = after ≡ before
-ShowsBy (coming.Exited code) why before after = after ≡ before
-ShowsBy (coming.Learned text value holder) why before after = after ≡ before
-ShowsBy (coming.Variables holder variables) None before after = after ≡ with_told holder variables before
-ShowsBy (coming.Variables holder variables) (Some why) before after = after ≡ before
-ShowsBy (coming.Sources more) why before after = after ≡ before
+abbrev pub ShowsWith : Coming → Option Dropped → Option Here → Option Here → Type 0
+ShowsWith (coming.Output category text) why before after = after ≡ before
+ShowsWith (coming.Stopped reason thread shows later) None before after = ShowsFirst shows later after
+ShowsWith (coming.Stopped reason thread shows later) (Some why) before after = after ≡ before
+ShowsWith (coming.Continued thread) why before after = after ≡ before
+ShowsWith (coming.Exited code) why before after = after ≡ before
+ShowsWith (coming.Learned text value holder) why before after = after ≡ before
+ShowsWith (coming.Variables holder variables) None before after = after ≡ with_told holder variables before
+ShowsWith (coming.Variables holder variables) (Some why) before after = after ≡ before
+ShowsWith (coming.Sources more) why before after = after ≡ before
+
+abbrev pub ShowsBy : Option Coming → Option Dropped → Option Here → Option Here → Type 0
+ShowsBy None why before after = after ≡ before
+ShowsBy (Some c) why before after = ShowsWith c why before after
 
 -- sources come behind those there were, where they are not dropped
-abbrev pub sources_by : Coming → Option Dropped → Played → Played
-sources_by (coming.Output category text) why base = base
-sources_by (coming.Stopped reason thread shows later) why base = base
-sources_by (coming.Continued thread) why base = base
-sources_by (coming.Exited code) why base = base
-sources_by (coming.Learned text value holder) why base = base
-sources_by (coming.Variables holder variables) why base = base
-sources_by (coming.Sources more) None base = with_sources_of more base
-sources_by (coming.Sources more) (Some why) base = base
+abbrev pub sources_with : Coming → Option Dropped → Played → Played
+sources_with (coming.Output category text) why base = base
+sources_with (coming.Stopped reason thread shows later) why base = base
+sources_with (coming.Continued thread) why base = base
+sources_with (coming.Exited code) why base = base
+sources_with (coming.Learned text value holder) why base = base
+sources_with (coming.Variables holder variables) why base = base
+sources_with (coming.Sources more) None base = with_sources_of more base
+sources_with (coming.Sources more) (Some why) base = base
+
+abbrev pub sources_by : Option Coming → Option Dropped → Played → Played
+sources_by None why base = base
+sources_by (Some c) why base = sources_with c why base
 
 -- what is shown is the same
 pub record SameShown (v w : LiveState) : Type 0 where

@@ -107,9 +107,9 @@ impl Live {
     ghost use Rattle.dap_replay.specs.Played.{shown_of, with_sources_of};
     ghost use Rattle.dap_live.specs.LiveShown.{shown_live, HasFewSources, IsFew, now_shown, children_in, told_of, value_told};
     ghost use Rattle.dap_live.specs.LiveLaws.{FollowsLive, with_told, noted};
-    ghost use Rattle.dap_live.specs.Dropping.{why_dropped, why_not_shown, why_no_room, why_unheard, why_untold};
+    ghost use Rattle.dap_live.specs.Dropping.{why_dropped, why_not_shown, why_no_room, why_untold};
     ghost use Rattle.dap_live.specs.PrivateHeld.{last_of, done_by, with_here, with_base, IsNoStop, ShowsFirst};
-    ghost use Rattle.dap_live.specs.PrivateHearing.{heard_so, dropped_so, heard_or_dropped, told_by, learned_by, sources_by, ShowsBy, SameShown, StaysButLearned, SetsShown, HasChanged};
+    ghost use Rattle.dap_live.specs.PrivateHearing.{heard_so, dropped_so, heard_or_dropped, why_not_heard, told_by, learned_by, sources_by, ShowsBy, SameShown, StaysButLearned, SetsShown, HasChanged};
 
     /// Counts and remembers an act.
     fn note(&mut self, last: LiveLast)
@@ -354,16 +354,19 @@ impl Live {
         })
     }
 
-    /// Hears what the host says.
-    fn hear(&mut self, alloc: Global, coming: Coming) -> Result<Heard, AllocError>
+    /// Hears what the host said, if it said something.
+    fn hear(&mut self, alloc: Global, coming: Option<Coming>) -> Result<Heard, AllocError>
         ensures told { IfOk result (λ h. h.happening ≡ told_by coming self.old) }
-        ensures dropped { IfOk result (λ h. h.dropped ≡ why_unheard coming self.old) }
+        ensures dropped { IfOk result (λ h. h.dropped ≡ why_not_heard coming self.old) }
         ensures learned { OnOk result (self.new.learned ≡ learned_by coming) }
-        ensures shows { OnOk result (ShowsBy coming (why_unheard coming self.old) self.old.here self.new.here) }
-        ensures sources { OnOk result (self.new.base ≡ sources_by coming (why_unheard coming self.old) self.old.base) }
+        ensures shows { OnOk result (ShowsBy coming (why_not_heard coming self.old) self.old.here self.new.here) }
+        ensures sources { OnOk result (self.new.base ≡ sources_by coming (why_not_heard coming self.old) self.old.base) }
         ensures follows { IfOk result (λ h. FollowsLive self.old to_poll (happened h.happening) self.new) }
         ensures in_range { IfOk result (λ h. IsTrue (is_short h.happening)) }
     {
+        let Some(coming) = coming else {
+            return Ok(self.see_nothing(None));
+        };
         match coming {
             Coming::Learned {
                 text,
@@ -503,10 +506,8 @@ impl Debuggee for Live {
     }
 
     fn poll(&mut self, alloc: Global) -> Result<Happening, AllocError> {
-        let heard = match self.mail.take_coming() {
-            None => self.see_nothing(None),
-            Some(coming) => self.hear(alloc, coming)?,
-        };
+        let coming = self.mail.take_coming();
+        let heard = self.hear(alloc, coming)?;
         if let Some(why) = heard.dropped {
             self.mail.drop_coming(why);
         }
