@@ -87,8 +87,8 @@ fn split_digits(bytes: &[u8]) -> Option<(&[u8], &[u8])>
     value.split_at_checked(end)
 }
 
-/// The body of the first frame of those that an adapter handed out, lent, and what is behind it; `None` where there is no frame.
-/// So all bodies are told by `while let Some((body, later)) = first_body(rest)`, and none is copied.
+/// The body of the first frame of those that an adapter handed out, lent, and what is behind it; `None` where nothing is left. Of
+/// other bytes nothing is promised: this is no reader of a peer's frames. So all bodies are told by `while let Some((body, later)) = first_body(rest)`, and none is copied.
 pub fn first_body(frames: &[u8]) -> Option<(&[u8], &[u8])>
     ensures first { (body rest : List ℕ) → frames.now ≡ frame_of body ++ rest → MatchOption result ⊥ (λ r. (r.0.now ≡ body) × (r.1.now ≡ rest)) }
     ensures shorter { IfSome result (λ r. length r.1.now < length frames.now) }

@@ -3,7 +3,8 @@
 //! of a response gives.
 //!
 //! Specification, "Requests" and "Capabilities"; Overview, "Lifetime of Objects References". This crate knows names of commands,
-//! flags and keys; it must not know what arguments a command has, the envelope of a message, nor header fields.
+//! flags and keys, and of arguments what they name; it must not know what else a command has, the envelope of a message, nor
+//! header fields.
 #![tactic(auto)]
 
 mod capabilities;
