@@ -108,6 +108,11 @@ def handed_on(text, modules=()):
     return names, others
 
 
+def own_handed_on(text):
+    """The names of its own crate that a module hands out."""
+    return {name for name, (first, _, _) in handed_on(text)[1].items() if first == "crate"}
+
+
 def read_module(crate, path, exported):
     with open(path, encoding="utf-8") as file:
         text = without_comments(file.read())
@@ -211,6 +216,9 @@ def read_crates(here=HERE):
         if os.path.exists(lib):
             with open(lib, encoding="utf-8") as file:
                 exported = read_exports(crate, without_comments(file.read()))
+            for module in [module for module, public in crate.modules.items() if public]:
+                with open(os.path.join(folder, module + ".rt"), encoding="utf-8") as file:
+                    exported |= own_handed_on(without_comments(file.read()))
         for path in sorted(glob.glob(os.path.join(folder, "*.rt"))):
             read_module(crate, path, exported)
     settle(crates)
@@ -232,6 +240,7 @@ class Specs:
         self.files = {}  # (crate, file): {name: Definition}
         self.scopes = {}  # (crate, file): {name: (crate, file, name)}, with names of files as (crate, file, None)
         self.passed_on = {}  # crate: {file: (crate, file)}, by `pub use` of a whole file
+        self.handed_on = {}  # (crate, file): {name: (crate, file, name)}, by `pub use` of a definition
         for path in sorted(glob.glob(os.path.join(here, "crates", "*", "specs", "*.antt"))):
             self.read(path)
         self.reached = {}
@@ -264,6 +273,8 @@ class Specs:
             parts = line.split(".")
             self.passed_on.setdefault(crate, {})[parts[-1]] = (parts[0], parts[-1])
         self.scopes[crate, file] = scope_of(text)
+        handed = "\n".join(line[len("pub ") :] for line in text.split("\n") if line.startswith("pub use "))
+        self.handed_on[crate, file] = {name: meant for name, meant in scope_of(handed).items() if meant[2] is not None}
 
     def home(self, crate, file):
         """The crate and file that a file's name in a crate means."""
@@ -295,11 +306,18 @@ class Specs:
                 meant = scope.get(name)
             if not meant or meant[2] is None:
                 continue
-            home = self.home(meant[0], meant[1])
-            definition = self.files[home].get(meant[2]) if home else None
+            definition = self.meant(*meant)
             if definition:
                 found.append(definition)
         return found
+
+    def meant(self, crate, file, name):
+        """The definition that a name of a file means, also one of another file that this one hands on."""
+        home = self.home(crate, file)
+        if not home:
+            return None
+        other = self.handed_on[home].get(name)
+        return self.meant(*other) if other else self.files[home].get(name)
 
     def below(self, definition):
         key = (definition.crate, definition.file)

@@ -1,8 +1,10 @@
 pub mod Adapting
 pub mod Appending
+pub mod BodyLemmas
 pub mod Ending
 pub mod Knowing
 pub mod Leading
+pub mod OneByOne
 pub mod Outgoing
 pub mod Polling
 pub mod Reaching
@@ -12,5 +14,7 @@ pub mod Refusing
 mod RunExamples
 pub mod RunningOn
 pub mod Stopping
+pub mod StreamLemmas
 pub mod Telling
 pub mod Handing
+pub mod Joining

@@ -4,5 +4,7 @@ pub mod Calls
 pub mod PrivateReceives
 pub mod Run
 pub mod Parts
+pub mod Bodies
 pub mod Served
 pub mod PrivateServing
+pub mod PrivateStreams

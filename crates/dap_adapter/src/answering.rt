@@ -1,5 +1,5 @@
 //! An adapter in a program with a loop of its own, as each debugger and each editor has: a piece at a time.
-ghost use Rattle.std.specs.Prelude.{◌≡◌, List, [], true, false, IfOk, IfErr, OnOk, OnErr, IfSome, IsOk, Some, None, Ok, Err};
+ghost use Rattle.std.specs.Prelude.{◌≡◌, List, [], ◌++◌, true, false, IfOk, IfErr, OnOk, OnErr, IfSome, IsOk, Some, None, Ok, Err};
 ghost use Rattle.dap_adapter.specs.Parts.{AnswersPiece, PollsOn, StopsAfter, PartsJoin, CallsInTurnAddUp};
 ghost use Rattle.dap_adapter.specs.PrivateServing.{adapter_fault_of};
 ghost use Rattle.dap_adapter.specs.Run.{to_take, to_poll, has_ended};
@@ -77,6 +77,29 @@ impl<D: Debuggee + Drop> Adapter<D> {
                 self.close(fault);
                 Err(fault)
             }
+        }
+    }
+
+    /// Uses a piece that comes in two.
+    pub(crate) fn answer_in_two(
+        &mut self,
+        alloc: Global,
+        front: &[u8],
+        back: &[u8],
+        out: &mut Vec<u8>,
+    ) -> Result<bool, AdapterFault>
+        requires { self.old.fault ≡ None }
+        ensures answers { IfOk result (λ ended. AnswersPiece D.shown D.follows self.old (front.now ++ back.now) out.old.items self.new out.new.items ended) }
+        ensures open { OnOk result (self.new.fault ≡ None) }
+        ensures limits { self.new.session.limits ≡ self.old.session.limits }
+        ensures stops { IfErr result (λ fault. StopsAfter D.shown D.follows self.old to_take (front.now ++ back.now) out.old.items fault self.new out.new.items) }
+        ensures held { OnErr result (self.new.intake.held ≡ []) }
+        ensures latches { IfErr result (λ fault. self.new.fault ≡ Some fault) }
+    {
+        match self.answer(alloc, front, out) {
+            Ok(false) => self.answer(alloc, back, out),
+            Ok(true) => Ok(true),
+            Err(fault) => Err(fault),
         }
     }
 

@@ -6,3 +6,9 @@ pub mod Body
 pub mod PlainBodies
 pub mod PrivateText
 pub mod GivenNumbers
+pub mod Key
+pub mod At
+pub mod Elements
+pub mod Lent
+pub mod View
+pub mod ReadAgain

@@ -1,6 +1,7 @@
 //! Laws of the definitions, each on a function with nothing to run.
 ghost use Rattle.dap_body.specs.GivenNumbers.{BodiesGiveTheirNumbers};
 ghost use Rattle.dap_body.specs.PlainBodies.{EventBodiesArePlain, FailureBodiesArePlain, ResponseBodiesArePlain};
+ghost use Rattle.dap_body.specs.ReadAgain.{WhatIsWrittenIsReadAgain};
 
 /// What the builders of bodies give can stand in a message that is written, however long its lists
 /// and texts are: a message with such a body is plain where its numbers and its command are.
@@ -14,4 +15,10 @@ pub fn bodies_are_plain()
 /// it was built with, in their order, each that is in the range of references, and no other.
 pub fn bodies_give_their_numbers()
     ensures { BodiesGiveTheirNumbers }
+{}
+
+/// Of each body that is written here and read by [`view`](crate::view), with its numbers in range: what is read is what was
+/// written, every element in its place, and every member of it.
+pub fn what_is_written_is_read_again()
+    ensures { WhatIsWrittenIsReadAgain }
 {}

@@ -1,14 +1,19 @@
-//! The bodies that are written: those of responses, of an adapter's events and of failures.
+//! Bodies of messages: those of responses, of an adapter's events and of failures as they are written, and in [`view`] those
+//! of responses as a client reads them.
 //!
 //! Specification, "Responses" under "Requests", "Events", "ErrorResponse" and "Types". This crate must not know the
 //! envelope of a message, nor header fields.
 #![tactic(auto)]
 
 mod body;
+mod elements;
 mod event;
 mod failure;
+mod fault;
+mod key;
 pub mod laws;
 mod response;
+pub mod view;
 
 pub use body::{Body, append_body};
 pub use event::{

@@ -26,7 +26,7 @@ all_three false b c e = absurd (true≢false (sym e))
 
 -- ---- shapes
 
-int_again : (z : ℤ) → is_int z ≡ true → int_of (int z) ≡ Some z
+pub int_again : (z : ℤ) → is_int z ≡ true → int_of (int z) ≡ Some z
 int_again (pos n) e =
     let small : nat_lt n (2 ^ 63) ≡ true = let bound : n ≤ 9007199254740991 = leb-true n 9007199254740991 e in lt-ltb n (2 ^ 63) (omega arith) in
     rw (small, e)

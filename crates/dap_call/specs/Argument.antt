@@ -2,11 +2,12 @@
 -- Specification, the types whose names end in "Arguments": what type a property has, and whether it may be absent.
 -- This profile's choice: that `null` counts as absent, and that one key is told, the first bad one
 -- in the order of the command's row.
-use Rattle.std.specs.Prelude.{Option, Some, None, option_and_then, option_map, unwrap_or, Result, Ok, Err}
+use Rattle.std.specs.Prelude.{◌≡◌, Option, Some, None, option_and_then, Result, Ok, Err}
 use Rattle.serde_json.specs.Data.{Data, null, object}
-use Rattle.std.specs.Prelude.{◌≡◌}
 use Rattle.dap_json.specs.Field.{tree_at}
-use Rattle.dap_json.specs.Steps.{◌>>=◌, Returns}
+pub use Rattle.dap_json.specs.Property.{ok_map as read_map, or_bad, in_shape}
+use Rattle.dap_json.specs.Property.{required, in_shape_or}
+use Rattle.dap_json.specs.Steps.{Returns}
 use Rattle.dap_command.specs.Key.{text_of}
 use Rattle.dap_command.specs.declared.key.Key.{Key}
 use Rattle.dap_command.specs.declared.key.Key.TheVariants as key
@@ -16,11 +17,6 @@ use Rattle.dap_call.specs.declared.call.CallFault.TheVariants.{BadArguments, Out
 -- a value, or the first bad key
 abbrev pub Read : Type 0 → Type 0
 Read A = Result A Key
-
--- what was read, in another form
-abbrev pub read_map : {A B : Type 0} → (A → B) → Read A → Read B
-read_map form (Ok x) = Ok (form x)
-read_map form (Err e) = Err e
 
 -- what a fault says of what the rows read: the first bad key, or nothing where memory ran out
 abbrev pub Says : {A : Type 0} → CallFault → Read A → Type 0
@@ -37,26 +33,16 @@ Gives result read = Returns (λ x. x) Says result read
 abbrev pub value_at : Key → Option Data → Option Data
 value_at k arguments = option_and_then (tree_at (text_of k)) arguments
 
-abbrev pub or_bad : {A : Type 0} → Key → Option A → Read A
-or_bad k None = Err k
-or_bad k (Some x) = Ok x
-
 -- the value at a key, which has to be there in this shape
 abbrev pub required_at : {A : Type 0} → (Data → Option A) → Key → Option Data → Read A
-required_at shape k arguments = or_bad k (option_and_then shape (value_at k arguments))
-
-abbrev pub in_shape : {A : Type 0} → (Data → Option A) → Key → Option Data → Read (Option A)
-in_shape shape k None = Ok None
-in_shape shape k (Some d) = or_bad k (option_map Some (shape d))
+required_at shape k arguments = required shape k (value_at k arguments)
 
 -- the value at a key, which may be absent, but has this shape where it is there
 abbrev pub optional_at : {A : Type 0} → (Data → Option A) → Key → Option Data → Read (Option A)
 optional_at shape k arguments = in_shape shape k (value_at k arguments)
 
 abbrev pub optional_or : {A : Type 0} → (Data → Option A) → A → Key → Option Data → Read A
-optional_or shape default k arguments = do
-  found ← optional_at shape k arguments
-  Ok (unwrap_or found default)
+optional_or shape default k arguments = in_shape_or shape default k (value_at k arguments)
 
 -- ---- the whole
 

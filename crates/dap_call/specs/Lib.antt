@@ -2,4 +2,5 @@ pub mod Argument
 pub mod Call
 pub mod CallTree
 pub mod PlainCall
+pub mod CallObjects
 pub mod Terminal

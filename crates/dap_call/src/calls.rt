@@ -6,14 +6,13 @@ ghost use Rattle.dap_call.specs.Argument.{Gives, read_map, must_be_there};
 ghost use Rattle.dap_call.specs.Call.{lines_of, line_in, breakpoint_lines_of, name_in, names_of, texts_of, source_key_of, source_reference_of, source_parts as source_parts_of, initialize_of, cancel_of, given_lines, set_breakpoints_of, set_function_breakpoints_of, set_exception_breakpoints_of, stack_trace_of, scopes_of, variables_of, evaluate_of, source_of, set_variable_of, modules_of, breakpoint_locations_of, completions_of, thread_of, tree_of, call_of, takes_memory};
 ghost use Rattle.dap_call.specs.declared.call.CallFault.TheVariants.{OutOfMemory};
 
-use crate::argument;
 use crate::argument::Arguments;
 use crate::call::{
     BreakpointLocations, Call, CallFault, Completions, Evaluate, Initialize, Modules, SetVariable,
     StackTrace, Variables,
 };
 use dap_command::{Command, Key, SourceKey};
-use dap_json::{List, Text, Tree, field};
+use dap_json::{List, Text, Tree, field, numbers};
 use serde_json::Value;
 use std::alloc::{AllocError, Global};
 
@@ -24,8 +23,8 @@ fn source_parts(source: &Value) -> Result<(Option<&str>, u32), Key>
         ≡ source_parts_of (view source.now) }
 {
     let source = Arguments::required(Some(source))?;
-    let path = source.optional_str(Key::Path)?;
-    let reference = source.number_or(Key::SourceReference, 0)?;
+    let path = source.at(Key::Path).optional_text()?;
+    let reference = source.at(Key::SourceReference).number_or(0)?;
     Ok((path, reference))
 }
 
@@ -57,7 +56,7 @@ fn lines(alloc: Global, lines: &Value) -> Result<Option<List<u32>>, AllocError>
     };
     let mut found = Vec::new(alloc);
     for item in items {
-        let Some(line) = argument::number(item) else {
+        let Some(line) = numbers::number(item) else {
             return Ok(None);
         };
         found.push(line)?;
@@ -73,7 +72,7 @@ fn are_lines(lines: &Value) -> bool
         return false;
     };
     for item in items {
-        if argument::number(item).is_none() {
+        if numbers::number(item).is_none() {
             return false;
         }
     }
@@ -83,7 +82,7 @@ fn are_lines(lines: &Value) -> bool
 fn line(breakpoint: &Value) -> Option<u32>
     ensures { result ≡ line_in (view breakpoint.now) }
 {
-    breakpoint.get(Key::Line.name()).and_then(argument::number)
+    breakpoint.get(Key::Line.name()).and_then(numbers::number)
 }
 
 fn breakpoint_lines(alloc: Global, breakpoints: &Value) -> Result<Option<List<u32>>, AllocError>
@@ -147,13 +146,12 @@ fn initialize(alloc: Global, given: Option<&Value>) -> Result<Call, CallFault>
 {
     let arguments = Arguments::optional(given)?;
     let adapter_id = arguments.text_or_empty(alloc, Key::AdapterId)?;
-    let lines_start_at_1 = arguments.bool_or(Key::LinesStartAt1, true)?;
-    let columns_start_at_1 = arguments.bool_or(Key::ColumnsStartAt1, true)?;
-    let supports_variable_paging = arguments.bool_or(Key::SupportsVariablePaging, false)?;
-    let supports_run_in_terminal_request = arguments.bool_or(
-        Key::SupportsRunInTerminalRequest,
-        false,
-    )?;
+    let lines_start_at_1 = arguments.at(Key::LinesStartAt1).flag_or(true)?;
+    let columns_start_at_1 = arguments.at(Key::ColumnsStartAt1).flag_or(true)?;
+    let supports_variable_paging = arguments.at(Key::SupportsVariablePaging).flag_or(false)?;
+    let supports_run_in_terminal_request = arguments
+        .at(Key::SupportsRunInTerminalRequest)
+        .flag_or(false)?;
     Ok(Call::Initialize(Initialize {
         adapter_id,
         lines_start_at_1,
@@ -168,7 +166,7 @@ fn cancel(given: Option<&Value>) -> Result<Call, Key>
     ensures { result ≡ cancel_of (lent_data given.entry) }
 {
     let arguments = Arguments::optional(given)?;
-    let request_id = arguments.optional_seq(Key::RequestId)?;
+    let request_id = arguments.at(Key::RequestId).optional_whole()?;
     Ok(Call::Cancel { request_id })
 }
 
@@ -289,9 +287,9 @@ fn stack_trace(given: Option<&Value>) -> Result<Call, Key>
     ensures { result ≡ stack_trace_of (lent_data given.entry) }
 {
     let arguments = Arguments::required(given)?;
-    let thread_id = arguments.required_int(Key::ThreadId)?;
-    let start_frame = arguments.number_or(Key::StartFrame, 0)?;
-    let levels = arguments.number_or(Key::Levels, 0)?;
+    let thread_id = arguments.at(Key::ThreadId).required_int()?;
+    let start_frame = arguments.at(Key::StartFrame).number_or(0)?;
+    let levels = arguments.at(Key::Levels).number_or(0)?;
     Ok(Call::StackTrace(StackTrace {
         thread_id,
         start_frame,
@@ -305,7 +303,7 @@ fn evaluate(alloc: Global, given: Option<&Value>) -> Result<Call, CallFault>
 {
     let arguments = Arguments::required(given)?;
     let expression = arguments.required_text(alloc, Key::Expression)?;
-    let frame_id = arguments.optional_number(Key::FrameId)?;
+    let frame_id = arguments.at(Key::FrameId).optional_number()?;
     Ok(Call::Evaluate(Evaluate {
         expression,
         frame_id,
@@ -317,7 +315,7 @@ fn scopes(given: Option<&Value>) -> Result<Call, Key>
     ensures { result ≡ scopes_of (lent_data given.entry) }
 {
     let arguments = Arguments::required(given)?;
-    let frame_id = arguments.required_number(Key::FrameId)?;
+    let frame_id = arguments.at(Key::FrameId).required_number()?;
     Ok(Call::Scopes { frame_id })
 }
 
@@ -326,9 +324,9 @@ fn variables(given: Option<&Value>) -> Result<Call, Key>
     ensures { result ≡ variables_of (lent_data given.entry) }
 {
     let arguments = Arguments::required(given)?;
-    let variables_reference = arguments.required_number(Key::VariablesReference)?;
-    let start = arguments.number_or(Key::Start, 0)?;
-    let count = arguments.number_or(Key::Count, 0)?;
+    let variables_reference = arguments.at(Key::VariablesReference).required_number()?;
+    let start = arguments.at(Key::Start).number_or(0)?;
+    let count = arguments.at(Key::Count).number_or(0)?;
     Ok(Call::Variables(Variables {
         variables_reference,
         start,
@@ -345,7 +343,7 @@ fn source(given: Option<&Value>) -> Result<Call, Key>
     let inner = arguments
         .optional_source_reference(Key::Source)?
         .unwrap_or(0);
-    let outer = arguments.number_or(Key::SourceReference, 0)?;
+    let outer = arguments.at(Key::SourceReference).number_or(0)?;
     let source_reference = if inner == 0 { outer } else { inner };
     Ok(Call::Source { source_reference })
 }
@@ -355,7 +353,7 @@ fn set_variable(alloc: Global, given: Option<&Value>) -> Result<Call, CallFault>
     ensures { Gives result (set_variable_of (lent_data given.entry)) }
 {
     let arguments = Arguments::required(given)?;
-    let variables_reference = arguments.required_number(Key::VariablesReference)?;
+    let variables_reference = arguments.at(Key::VariablesReference).required_number()?;
     let name = arguments.required_text(alloc, Key::Name)?;
     let value = arguments.required_text(alloc, Key::Value)?;
     Ok(Call::SetVariable(SetVariable {
@@ -370,8 +368,8 @@ fn modules(given: Option<&Value>) -> Result<Call, Key>
     ensures { result ≡ modules_of (lent_data given.entry) }
 {
     let arguments = Arguments::optional(given)?;
-    let start_module = arguments.number_or(Key::StartModule, 0)?;
-    let module_count = arguments.number_or(Key::ModuleCount, 0)?;
+    let start_module = arguments.at(Key::StartModule).number_or(0)?;
+    let module_count = arguments.at(Key::ModuleCount).number_or(0)?;
     Ok(Call::Modules(Modules {
         start_module,
         module_count,
@@ -384,8 +382,8 @@ fn breakpoint_locations(alloc: Global, given: Option<&Value>) -> Result<Call, Ca
 {
     let arguments = Arguments::required(given)?;
     let source = arguments.required_source(alloc, Key::Source)?;
-    let line = arguments.required_number(Key::Line)?;
-    let end_line = arguments.optional_number(Key::EndLine)?;
+    let line = arguments.at(Key::Line).required_number()?;
+    let end_line = arguments.at(Key::EndLine).optional_number()?;
     Ok(Call::BreakpointLocations(BreakpointLocations {
         source,
         line,
@@ -399,9 +397,9 @@ fn completions(alloc: Global, given: Option<&Value>) -> Result<Call, CallFault>
 {
     let arguments = Arguments::required(given)?;
     let text = arguments.required_text(alloc, Key::Text)?;
-    let column = arguments.required_number(Key::Column)?;
-    let frame_id = arguments.optional_number(Key::FrameId)?;
-    let line = arguments.optional_number(Key::Line)?;
+    let column = arguments.at(Key::Column).required_number()?;
+    let frame_id = arguments.at(Key::FrameId).optional_number()?;
+    let line = arguments.at(Key::Line).optional_number()?;
     Ok(Call::Completions(Completions {
         text,
         column,
@@ -414,7 +412,7 @@ fn completions(alloc: Global, given: Option<&Value>) -> Result<Call, CallFault>
 fn thread(given: Option<&Value>) -> Result<i64, Key>
     ensures { result ≡ thread_of (lent_data given.entry) }
 {
-    Arguments::required(given)?.required_int(Key::ThreadId)
+    Arguments::required(given)?.at(Key::ThreadId).required_int()
 }
 
 /// A copy of a value that is an object.

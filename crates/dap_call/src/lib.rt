@@ -10,6 +10,7 @@ mod call;
 mod calls;
 pub mod laws;
 mod members;
+mod objects;
 mod plain;
 mod terminal;
 mod writing;
@@ -20,9 +21,10 @@ pub use call::{
 };
 pub use calls::read_call;
 pub use dap_command::{
-    Capabilities, Command, FRAMES, FramesGiven, Gate, GatheredReferences, HOLDERS, HoldersGiven,
-    Key, SourceKey, frames_given, holders_given,
+    Capabilities, Command, FRAMES, FramesGiven, Gate, GatheredReferences, GivenObjects, HOLDERS,
+    HoldersGiven, Key, NamedObject, SourceKey, frames_given, holders_given,
 };
+pub use objects::CallObject;
 pub use plain::MAX_ARGUMENTS;
 pub use terminal::{RUN_IN_TERMINAL, TerminalCall, read_terminal, write_terminal};
 pub use writing::write_call;

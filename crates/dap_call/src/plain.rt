@@ -8,10 +8,10 @@ ghost use Rattle.dap_call.specs.CallTree.{command_of};
 ghost use Rattle.dap_call.specs.PlainCall.{is_plain_call, is_plain_source, are_plain_arguments};
 ghost use Rattle.dap_command.specs.Numbers.{is_number as is_number_in_range, is_none_or};
 
-use crate::argument::{MAX_NUMBER, is_int};
 use crate::call::Call;
 use dap_command::{Command, SourceKey};
 use dap_json::field::MAX_SEQ;
+use dap_json::numbers::{MAX_NUMBER, is_int};
 use dap_json::{Tree, plain};
 
 /// How deep the tree of `launch` or `attach` may nest. A scalar nests 0 deep, an array or an object one more than its

@@ -49,7 +49,7 @@ pub fn read_terminal(alloc: Global, arguments: Option<&Value>) -> Result<Termina
     let title = arguments.optional_text(alloc, Key::Title)?;
     let cwd = arguments.required_text(alloc, Key::Cwd)?;
     let args = arguments.required_texts(alloc, Key::Args)?;
-    arguments.test_object(Key::Env)?;
+    arguments.at(Key::Env).test_object()?;
     Ok(TerminalCall {
         kind,
         title,

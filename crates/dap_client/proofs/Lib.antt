@@ -6,6 +6,8 @@ pub mod Going
 pub mod Refusals
 pub mod Answered
 pub mod Staying
+pub mod ReferenceLemmas
+pub mod RequestLemmas
 pub mod SendsProject
 pub mod AnswersProject
 pub mod Projecting
@@ -15,6 +17,6 @@ pub mod Played
 mod LifeExamples
 mod TerminalExamples
 mod ReferencesExamples
-mod SeatExamples
+mod ProjectionExamples
 mod Names
 mod Declining

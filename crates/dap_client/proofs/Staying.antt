@@ -7,6 +7,7 @@ use Rattle.serde_json.specs.Data.{Data}
 use Rattle.dap_frame.specs.Settings.{Settings}
 use Rattle.dap_json.specs.Field.{max_seq}
 use Rattle.dap_command.specs.Command.{command_named}
+use Rattle.dap_call.specs.CallTree.{command_of}
 use Rattle.dap_call.specs.declared.call.Call.{Call}
 use Rattle.dap_command.specs.declared.command.Command.{Command}
 use Rattle.dap_body.specs.declared.failure.Failure.{Failure}
@@ -28,9 +29,10 @@ use Rattle.dap_client.specs.Sending.{holds, first_of, late_refusals, refusals_in
 use Rattle.dap_client.specs.Session.{Session, fresh_session}
 use Rattle.dap_client.specs.TerminalResponse.{first_terminal_refusal, after_terminal_response}
 use Rattle.dap_client.specs.Taking.{Made, made_without_writing, failure_in, made_by_declining, request_from, made_by_keeping, keeps_or_declines, made_by_answer, answered_within, takes_answer, takes_as}
-use Rattle.dap_client.specs.Within.{AreSent, IsWithin, IsRequestSeqInRange, EachStepStaysWithin}
+use Rattle.dap_client.specs.Within.{AreSent, AreNamed, IsWithin, IsRequestSeqInRange, EachStepStaysWithin}
 use Rattle.dap_client.proofs.Answered.{sent-fewer, sent-later}
 use Rattle.dap_client.proofs.Refusals.{none-or, sent-more}
+use Rattle.dap_client.proofs.RequestLemmas.{named-back}
 use Rattle.dap_client.proofs.Waiting.{false-left, false-right}
 use Rattle.dap_client.proofs.TerminalRequests.{IsRoom, room-of, answered-has-number, terminals-more, terminals-fewer}
 
@@ -89,6 +91,19 @@ length-fewer gone [] = omega arith
 length-fewer gone (k ∷ kept) =
     let less = length-if (not (k.entry.seq == gone)) k (without gone kept) (length kept) (length-fewer gone kept) in
     omega arith
+
+-- each names a command
+named-more : (kept : List Kept) (e : Entry) → (c : Command) × (command_named e.command ≡ Some c) → AreNamed kept → AreNamed (kept ++ kept_unparked e ∷ [])
+named-more [] e n h = (n, tt)
+named-more (k ∷ kept) e n h = (h.0, named-more kept e n h.1)
+
+named-if : (b : Bool) (k : Kept) (kept : List Kept) → (c : Command) × (command_named k.entry.command ≡ Some c) → AreNamed kept → AreNamed (cond b (k ∷ kept) kept)
+named-if true k kept n h = (n, h)
+named-if false k kept n h = h
+
+named-fewer : (gone : ℕ) (kept : List Kept) → AreNamed kept → AreNamed (without gone kept)
+named-fewer gone [] h = tt
+named-fewer gone (k ∷ kept) h = named-if (not (k.entry.seq == gone)) k (without gone kept) h.0 (named-fewer gone kept h.1)
 
 -- ---- references that are known
 
@@ -168,6 +183,7 @@ send-stays s c closed w e =
       distinct = distinct-more s.used s.outstanding r w.sent next w.distinct;
       outstanding = omega arith;
       sent = sent-more s.used r s.outstanding refl w.sent;
+      named = named-more s.outstanding r (command_of c, named-back (command_of c)) w.named;
       incoming_distinct = w.incoming_distinct;
       incoming = w.incoming;
       terminals = w.terminals;
@@ -195,6 +211,7 @@ declines-stays true seq name failure s made is e w =
       distinct = w.distinct;
       outstanding = w.outstanding;
       sent = sent-later s.used (s.used + 1) s.outstanding (later s.used) w.sent;
+      named = w.named;
       incoming_distinct = w.incoming_distinct;
       incoming = w.incoming;
       terminals = w.terminals;
@@ -213,6 +230,7 @@ keeping-stays r s new room small w =
       distinct = w.distinct;
       outstanding = w.outstanding;
       sent = w.sent;
+      named = w.named;
       incoming_distinct = distinct-new s.incoming r new w.incoming_distinct;
       incoming = omega arith;
       terminals = terminals-more s.incoming r w.terminals room.command small;
@@ -240,6 +258,7 @@ made_by_answer-stays sets true n ok name body s made is e w =
       distinct = distinct-fewer n s.outstanding w.distinct;
       outstanding = omega arith;
       sent = sent-fewer s.used n s.outstanding w.sent;
+      named = named-fewer n s.outstanding w.named;
       incoming_distinct = w.incoming_distinct;
       incoming = w.incoming;
       terminals = w.terminals;
@@ -261,7 +280,7 @@ quiet-stays : (s : Session) (seen : Seen) (made : Made) → (let given : Result 
     → HasDistinctPairs seen.known → length seen.known ≤ s.limits.references → Stays s made
 quiet-stays s seen made e apart known w =
     let same : made_without_writing (record s { seen = seen }) ≡ made = cc in
-    subst (λ (x : Made). IsWithin x.after) same (record { distinct = w.distinct; outstanding = w.outstanding; sent = w.sent; incoming_distinct = w.incoming_distinct; incoming = w.incoming; terminals = w.terminals; used = w.used; apart = apart; known = known })
+    subst (λ (x : Made). IsWithin x.after) same (record { distinct = w.distinct; outstanding = w.outstanding; sent = w.sent; named = w.named; incoming_distinct = w.incoming_distinct; incoming = w.incoming; terminals = w.terminals; used = w.used; apart = apart; known = known })
 
 kind-stays : KnownIsASet → (seq : ℕ) (kind : Kind) (s : Session) (made : Made) → IsRequestSeqInRange seq kind → takes_as seq kind s ≡ Ok made → Stays s made
 kind-stays sets seq (Request name arguments) s made small e w = request-stays (contains_seq seq s.incoming) (request_from seq name arguments) s made refl small e w
@@ -281,6 +300,7 @@ answer-stays s request_seq closed w none =
       distinct = w.distinct;
       outstanding = w.outstanding;
       sent = sent-later s.used (s.used + 1) s.outstanding (later s.used) w.sent;
+      named = w.named;
       incoming_distinct = distinct-fewer request_seq s.incoming w.incoming_distinct;
       incoming = omega arith;
       terminals = terminals-fewer request_seq s.incoming w.terminals;
@@ -326,7 +346,7 @@ keeps-kind seq (Other tag) s = keeps-ok s (made_without_writing s) refl
 -- ---- the law
 
 pub fresh-stays : (limits : Settings) → IsWithin (fresh_session limits)
-fresh-stays limits = record { distinct = tt; outstanding = omega arith; sent = tt; incoming_distinct = tt; incoming = omega arith; terminals = tt; used = omega arith; apart = tt; known = omega arith }
+fresh-stays limits = record { distinct = tt; outstanding = omega arith; sent = tt; named = tt; incoming_distinct = tt; incoming = omega arith; terminals = tt; used = omega arith; apart = tt; known = omega arith }
 
 pub each_step_stays_within : KnownIsASet → EachStepStaysWithin
 each_step_stays_within sets = record {

@@ -12,7 +12,7 @@ pub mod Within
 pub mod ClientState
 pub mod StandsFor
 pub mod Laws
-pub mod ClientAbstraction
+pub mod Projection
 pub mod Keeping
 pub mod PrivateReceives
 pub mod Calls

@@ -1,7 +1,9 @@
 -- What stays true of a session, step by step.
-use Rattle.std.specs.Prelude.{◌≡◌, ℕ, ◌≤◌, List, [], ◌∷◌, length, Bool, false, None, Ok, ⊤}
+use Rattle.std.specs.Prelude.{◌≡◌, ℕ, ◌≤◌, List, [], ◌∷◌, length, Bool, false, Some, None, Ok, ⊤}
 use Rattle.dap_frame.specs.Settings.{Settings}
 use Rattle.dap_json.specs.Field.{max_seq}
+use Rattle.dap_command.specs.Command.{command_named}
+use Rattle.dap_command.specs.declared.command.Command.{Command}
 use Rattle.dap_call.specs.declared.call.Call.{Call}
 use Rattle.dap_envelope.specs.declared.message.Kind.{Kind}
 use Rattle.dap_envelope.specs.declared.message.Kind.TheVariants.{Request, Response, Event, Other}
@@ -19,6 +21,11 @@ abbrev pub AreSent : ℕ → List Kept → Type 0
 AreSent used [] = Unit {0}
 AreSent used (k ∷ kept) = (k.entry.seq ≤ used) × AreSent used kept
 
+-- each has the name of a command of this profile
+abbrev pub AreNamed : List Kept → Type 0
+AreNamed [] = Unit {0}
+AreNamed (k ∷ kept) = ((c : Command) × (command_named k.entry.command ≡ Some c)) × AreNamed kept
+
 -- each is one that a client answers: a terminal is asked for, by a number that can be read, and it is not parked
 abbrev pub AreTerminalRequests : List Kept → Type 0
 AreTerminalRequests [] = Unit {0}
@@ -31,6 +38,7 @@ pub record IsWithin (s : Session) : Type 0 where
   pub outstanding : length s.outstanding ≤ s.limits.requests
   -- each has a number that was given
   pub sent : AreSent s.used s.outstanding
+  pub named : AreNamed s.outstanding
   -- no two requests of the adapter that are kept have the same number
   pub incoming_distinct : HasDistinctSeqs s.incoming
   pub incoming : length s.incoming ≤ s.limits.requests

@@ -1,6 +1,6 @@
 //! Laws of the definitions, each on a function with nothing to run.
 ghost use Rattle.dap_client.specs.Laws.{EachNameIsShort, EachStepGoesOn};
-ghost use Rattle.dap_client.specs.ClientAbstraction.{EachStepProjects};
+ghost use Rattle.dap_client.specs.Projection.{EachStepProjects};
 ghost use Rattle.dap_client.specs.Within.{EachStepStaysWithin};
 
 use dap_history::laws::histories_grow;
@@ -16,18 +16,18 @@ pub fn each_step_goes_on()
 }
 
 /// What is true of every session stays true: no two outstanding requests have the same number, nor have two that are kept; no
-/// more of either are there, and no more references are known, than there is room for, each reference is known once, and no number is given past the
-/// greatest.
+/// more of either are there, and no more references are known, than there is room for; each outstanding request names a command,
+/// each reference is known once, and no number is given past the greatest.
 pub fn each_step_stays_within()
     ensures { EachStepStaysWithin }
 {
     known_is_a_set();
 }
 
-/// Each step is one of the smaller client, `ClientAbstraction`, which sees classes of commands in place of commands, and of the state
-/// the phase, `ready`, the numbers, the requests of both directions, the references and what was announced alone; a message
-/// closes both or neither, and
-/// of a call that is not refused no refusal holds. A law over both ends goes by that.
+/// Each step is one of the model of two ends (`dap_ends`), which sees classes of commands in place of commands, and of the
+/// state the phase, `ready`, the numbers, the requests of both directions, the references and what was announced alone. A
+/// response closes both or neither, by the same fault, and of a call that is not refused no refusal holds. A law over both
+/// ends goes by that.
 pub fn each_step_projects()
     ensures { EachStepProjects }
 {}

@@ -4,7 +4,7 @@ ghost use Rattle.serde_json.specs.View.{view};
 ghost use Rattle.dap_command.specs.GivenReferences.{frame_ids, holders_of};
 ghost use Rattle.dap_tables.specs.Given.{frame, holder, references_given_by, references_given_in};
 
-use dap_command::{Command, frames_given, holders_given};
+use dap_command::{Command, GivenObjects, frames_given, holders_given};
 use dap_json::Tree;
 use dap_tables::ReferenceKind;
 use serde_json::Value;
@@ -37,8 +37,8 @@ fn references_given_by(
 ) -> Result<Vec<(ReferenceKind, u32)>, AllocError>
     ensures { IfOk result (λ pairs. pairs.items ≡ references_given_by command (view body.now)) }
 {
-    match command {
-        Command::StackTrace => frames(alloc, body),
+    match command.given_objects() {
+        GivenObjects::Frames => frames(alloc, body),
         _ => holders(alloc, command, body),
     }
 }

@@ -21,7 +21,7 @@ use crate::phase::Phase;
 use crate::session::Session;
 use crate::{changes, table};
 use dap_call::laws::written_call_is_plain;
-use dap_call::{Call, write_call};
+use dap_call::{Call, CallObject, write_call};
 use dap_frame::frame_from;
 use dap_json::{Text, Tree};
 use dap_message::append_request;
@@ -79,18 +79,9 @@ impl Session {
     fn knows(&self, call: &Call) -> bool
         ensures { result ≡ are_known call.now self.now.seen.known }
     {
-        match call {
-            Call::Scopes { frame_id } => self.known.has(ReferenceKind::Frame, *frame_id),
-            Call::Evaluate(asked) => self.knows_frame(asked.frame_id),
-            Call::Completions(asked) => self.knows_frame(asked.frame_id),
-            Call::Variables(asked) => {
-                self.known
-                    .has(ReferenceKind::Holder, asked.variables_reference)
-            }
-            Call::SetVariable(asked) => {
-                self.known
-                    .has(ReferenceKind::Holder, asked.variables_reference)
-            }
+        match call.object() {
+            CallObject::Frame(number) => self.knows_frame(number),
+            CallObject::Holder(number) => self.known.has(ReferenceKind::Holder, number),
             _ => true,
         }
     }

@@ -3,19 +3,25 @@ use Rattle.std.specs.Prelude.{◌≡◌, ℕ, List, []}
 use Rattle.serde_json.specs.Data.{Data}
 use Rattle.dap_command.specs.GivenReferences.{frame_ids, holders_of}
 use Rattle.dap_command.specs.declared.command.Command.{Command}
-use Rattle.dap_command.specs.declared.command.Command.TheVariants.{Scopes, Variables, Evaluate, SetVariable}
+use Rattle.dap_command.specs.declared.command.Command.TheVariants.{Scopes, Variables, Evaluate}
+use Rattle.dap_command.specs.Objects.{given_objects}
+use Rattle.dap_command.specs.declared.objects.GivenObjects.{GivenObjects}
+use Rattle.dap_command.specs.declared.objects.GivenObjects.TheVariants as gives
 use Rattle.dap_command.specs.declared.gathering.GatheredReferences.{GatheredReferences}
 
 abbrev pub given_frames : GatheredReferences → List ℕ
 given_frames given = given.frames.items
 
+abbrev pub holders_gathered : GivenObjects → GatheredReferences → List ℕ
+holders_gathered gives.Nothing given = []
+holders_gathered gives.Frames given = []
+holders_gathered gives.Scopes given = given.scopes.items
+holders_gathered gives.Variables given = given.variables.items
+holders_gathered gives.Value given = given.own.items
+
 -- by the command of the response
 abbrev pub given_holders : Command → GatheredReferences → List ℕ
-given_holders Scopes given = given.scopes.items
-given_holders Variables given = given.variables.items
-given_holders Evaluate given = given.own.items
-given_holders SetVariable given = given.own.items
-given_holders _ given = []
+given_holders command given = holders_gathered (given_objects command) given
 
 -- the same as the walkers give over the body
 pub record AreGivenBy (given : GatheredReferences) (body : Data) : Type 0 where

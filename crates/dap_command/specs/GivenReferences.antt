@@ -8,8 +8,10 @@ use Rattle.serde_json.specs.Find.{get, as_array}
 use Rattle.serde_json.specs.View.{items_view}
 use Rattle.serde_json.specs.declared.value.Value.{Value}
 use Rattle.dap_json.specs.Field.{if_passes, whole_at}
+use Rattle.dap_command.specs.Objects.{given_objects}
 use Rattle.dap_command.specs.declared.command.Command.{Command}
-use Rattle.dap_command.specs.declared.command.Command.TheVariants.{Scopes, Variables, Evaluate, SetVariable}
+use Rattle.dap_command.specs.declared.objects.GivenObjects.{GivenObjects}
+use Rattle.dap_command.specs.declared.objects.GivenObjects.TheVariants as gives
 
 -- the whole number at a key, of `least` to 2147483647
 abbrev pub reference_at : List ℕ → ℕ → Data → Option ℕ
@@ -31,13 +33,16 @@ items_at key d = or_none (option_and_then as_array (get key d))
 abbrev pub frame_ids : Data → List ℕ
 frame_ids body = references_in (codes "id") 0 (items_at (codes "stackFrames") body)
 
--- the items whose numbers count
+-- the items by whose numbers variables are asked for
+abbrev pub holder_items : GivenObjects → Data → Items
+holder_items gives.Nothing body = no_items
+holder_items gives.Frames body = no_items
+holder_items gives.Scopes body = items_at (codes "scopes") body
+holder_items gives.Variables body = items_at (codes "variables") body
+holder_items gives.Value body = item body no_items
+
 abbrev pub holders_in : Command → Data → Items
-holders_in Scopes body = items_at (codes "scopes") body
-holders_in Variables body = items_at (codes "variables") body
-holders_in Evaluate body = item body no_items
-holders_in SetVariable body = item body no_items
-holders_in _ body = no_items
+holders_in command body = holder_items (given_objects command) body
 
 abbrev pub holders_of : Command → Data → List ℕ
 holders_of command body = references_in (codes "variablesReference") 1 (holders_in command body)

@@ -10,6 +10,7 @@ ghost use Rattle.dap_json.specs.ObjectReader.{IsNext};
 ghost use Rattle.dap_command.specs.Gathered.{given_frames, given_holders, AreGivenBy, AreGathered};
 
 use crate::command::Command;
+use crate::objects::GivenObjects;
 use dap_json::object_reader::{Invalid, ObjectReader, Range};
 use std::alloc::Global;
 
@@ -124,11 +125,11 @@ impl GatheredReferences {
     pub fn holders(&self, command: Command) -> &[u64]
         ensures { result.now ≡ given_holders command self.now }
     {
-        match command {
-            Command::Scopes => self.scopes.as_slice(),
-            Command::Variables => self.variables.as_slice(),
-            Command::Evaluate | Command::SetVariable => self.own.as_slice(),
-            _ => &[],
+        match command.given_objects() {
+            GivenObjects::Nothing | GivenObjects::Frames => &[],
+            GivenObjects::Scopes => self.scopes.as_slice(),
+            GivenObjects::Variables => self.variables.as_slice(),
+            GivenObjects::Value => self.own.as_slice(),
         }
     }
 }

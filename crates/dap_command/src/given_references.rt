@@ -8,6 +8,7 @@ ghost use Rattle.serde_json.specs.View.{view, items_view};
 ghost use Rattle.dap_command.specs.GivenReferences.{reference_at, references_of, frame_ids, holders_of, items_at};
 
 use crate::command::Command;
+use crate::objects::GivenObjects;
 use dap_json::field;
 use serde_json::Value;
 use std::marker::Model;
@@ -62,11 +63,11 @@ pub fn frames_given(body: &Value) -> FramesGiven<'_>
 pub fn holders_given(command: Command, body: &Value) -> HoldersGiven<'_>
     ensures { result ≡ holders_of command (view body.now) }
 {
-    let holders = match command {
-        Command::Scopes => items(body, "scopes"),
-        Command::Variables => items(body, "variables"),
-        Command::Evaluate | Command::SetVariable => slice::from_ref(body),
-        _ => &[],
+    let holders = match command.given_objects() {
+        GivenObjects::Nothing | GivenObjects::Frames => &[],
+        GivenObjects::Scopes => items(body, "scopes"),
+        GivenObjects::Variables => items(body, "variables"),
+        GivenObjects::Value => slice::from_ref(body),
     };
     HoldersGiven { holders }
 }

@@ -1,1 +1,2 @@
 pub mod ServedRows
+mod QueryBodies

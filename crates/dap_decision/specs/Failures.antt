@@ -5,11 +5,13 @@ use Rattle.std.specs.List.{list_any}
 use Rattle.std.specs.Ordering.{int_eq}
 use Rattle.dap_call.specs.Argument.{Read}
 use Rattle.dap_call.specs.Call.{call_of}
+use Rattle.dap_call.specs.CallObjects.{object_named}
 use Rattle.dap_command.specs.Command.{command_named}
 use Rattle.dap_tables.specs.declared.reference_kind.ReferenceKind.{ReferenceKind}
 use Rattle.dap_tables.specs.declared.reference_kind.ReferenceKind.TheVariants.{Frame, Holder}
 use Rattle.dap_call.specs.declared.call.Call.{Call}
-use Rattle.dap_call.specs.declared.call.Call.TheVariants as call
+use Rattle.dap_call.specs.declared.objects.CallObject.{CallObject}
+use Rattle.dap_call.specs.declared.objects.CallObject.TheVariants as object
 use Rattle.dap_command.specs.declared.command.Command.{Command}
 use Rattle.dap_command.specs.declared.command.Command.TheVariants as command
 use Rattle.dap_body.specs.declared.failure.Failure.{Failure}
@@ -51,16 +53,22 @@ waits_for_stop phase c = is_phase Running phase && is_of_stops c
 
 -- ---- tests of a call
 
+abbrev pub thread_in : CallObject → Option ℤ
+thread_in (object.Thread id) = Some id
+thread_in _ = None
+
+abbrev pub reference_in : CallObject → Option (ReferenceKind × ℕ)
+reference_in (object.Frame number) = option_map (λ n. (Frame, n)) number
+reference_in (object.Holder number) = Some (Holder, number)
+reference_in _ = None
+
+abbrev pub source_in : CallObject → Option ℕ
+source_in (object.Source number) = Some number
+source_in _ = None
+
 -- the thread that has to exist
 abbrev pub thread_named : Call → Option ℤ
-thread_named (call.Continue thread) = Some thread
-thread_named (call.Next thread) = Some thread
-thread_named (call.StepIn thread) = Some thread
-thread_named (call.StepOut thread) = Some thread
-thread_named (call.StepBack thread) = Some thread
-thread_named (call.ReverseContinue thread) = Some thread
-thread_named (call.StackTrace asked) = Some asked.thread_id
-thread_named _ = None
+thread_named asked = thread_in (object_named asked)
 
 -- the thread that a call names, where it names one
 abbrev pub thread_of : Call → ℤ
@@ -68,16 +76,11 @@ thread_of asked = unwrap_or (thread_named asked) (pos 0)
 
 -- the number that has to name something live of its kind
 abbrev pub reference_named : Call → Option (ReferenceKind × ℕ)
-reference_named (call.Scopes number) = Some (Frame, number)
-reference_named (call.Variables asked) = Some (Holder, asked.variables_reference)
-reference_named (call.SetVariable asked) = Some (Holder, asked.variables_reference)
-reference_named (call.Evaluate asked) = option_map (λ number. (Frame, number)) asked.frame_id
-reference_named _ = None
+reference_named asked = reference_in (object_named asked)
 
 -- the number that has to name a source
 abbrev pub source_named : Call → Option ℕ
-source_named (call.Source number) = Some number
-source_named _ = None
+source_named asked = source_in (object_named asked)
 
 abbrev pub has_thread : Shown → ℤ → Bool
 has_thread view id = list_any (λ t. int_eq t.id id) view.threads

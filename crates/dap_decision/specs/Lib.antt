@@ -1,3 +1,4 @@
 pub mod Table
 pub mod Failures
 pub mod Decisions
+pub mod Laws

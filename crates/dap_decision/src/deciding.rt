@@ -16,7 +16,7 @@ use crate::effect::Effect;
 use crate::phase::Phase;
 use crate::table::{effect_in, is_never_served, is_of_stops};
 use dap_body::Failure;
-use dap_call::{Call, CallFault, read_call};
+use dap_call::{Call, CallFault, CallObject, read_call};
 use dap_command::Command;
 use dap_debuggee::{Debuggee, DebuggeeFault, Thread};
 use dap_query::Queries;
@@ -70,14 +70,18 @@ fn by_phase(phase: Phase, command: Command) -> Result<Effect, Failure>
 fn thread_named(call: &Call) -> Option<i64>
     ensures { result ≡ thread_named call.now }
 {
-    match call {
-        Call::Continue { thread_id } => Some(*thread_id),
-        Call::Next { thread_id } => Some(*thread_id),
-        Call::StepIn { thread_id } => Some(*thread_id),
-        Call::StepOut { thread_id } => Some(*thread_id),
-        Call::StepBack { thread_id } => Some(*thread_id),
-        Call::ReverseContinue { thread_id } => Some(*thread_id),
-        Call::StackTrace(asked) => Some(asked.thread_id),
+    match call.object() {
+        CallObject::Thread(id) => Some(id),
+        _ => None,
+    }
+}
+
+/// The source whose text it asks for.
+fn source_named(call: &Call) -> Option<u32>
+    ensures { result ≡ source_named call.now }
+{
+    match call.object() {
+        CallObject::Source(number) => Some(number),
         _ => None,
     }
 }
@@ -86,14 +90,10 @@ fn thread_named(call: &Call) -> Option<i64>
 fn reference_named(call: &Call) -> Option<(ReferenceKind, u32)>
     ensures { result ≡ reference_named call.now }
 {
-    match call {
-        Call::Scopes { frame_id } => Some((ReferenceKind::Frame, *frame_id)),
-        Call::Variables(asked) => Some((ReferenceKind::Holder, asked.variables_reference)),
-        Call::SetVariable(asked) => Some((ReferenceKind::Holder, asked.variables_reference)),
-        Call::Evaluate(asked) => match asked.frame_id {
-            None => None,
-            Some(frame_id) => Some((ReferenceKind::Frame, frame_id)),
-        },
+    match call.object() {
+        CallObject::Frame(None) => None,
+        CallObject::Frame(Some(number)) => Some((ReferenceKind::Frame, number)),
+        CallObject::Holder(number) => Some((ReferenceKind::Holder, number)),
         _ => None,
     }
 }
@@ -140,13 +140,13 @@ fn lacks_reference(queries: &Queries, call: &Call) -> bool
 fn lacks_source<D: Debuggee>(alloc: Global, debuggee: &D, call: &Call) -> Result<bool, AllocError>
     ensures { IfOk result (λ lacks. lacks ≡ lacks_source (D.shown debuggee.now) (source_named call.now)) }
 {
-    let Call::Source { source_reference } = call else {
+    let Some(number) = source_named(call) else {
         return Ok(false);
     };
-    if *source_reference == 0 {
+    if number == 0 {
         return Ok(true);
     }
-    match debuggee.source(alloc, *source_reference - 1) {
+    match debuggee.source(alloc, number - 1) {
         Ok(_) => Ok(false),
         Err(DebuggeeFault::Refused) => Ok(true),
         Err(DebuggeeFault::OutOfMemory) => Err(AllocError),

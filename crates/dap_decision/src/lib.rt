@@ -8,6 +8,7 @@
 mod deciding;
 mod decision;
 mod effect;
+pub mod laws;
 mod phase;
 mod table;
 

@@ -325,10 +325,10 @@ module _ {D : Type 0} (laws : FrameLaws) (drive : Driving D) (agrees : EachSched
       let stands = s.goes_on a.came a.history a.stands in
       let same_limits : next.session.limits ≡ drive.limits = keeps ∙ (ap (λ (z : Session). z.limits) a.session_is ∙ a.limits_are) in
       let new_bounds : next.intake.bounds ≡ b = stands.bounds ∙ ap bounds_of same_limits in
-      let seat : SessionState D = record { session = s.session.made.after; debuggee = next.debuggee } in
+      let session_state : SessionState D = record { session = s.session.made.after; debuggee = next.debuggee } in
       let outs = written_by p.session s.session.made in
       let lines = written laws drive.limits Adapter outs taken.bytes.items ends.transcript longer_transcript later h.at.in_range (step_within ends.adapter next p a d.plan used came taken.bytes.items s) (step_bytes ends.adapter next p a d.plan used came taken.bytes.items s) w in
-      let world : World D = adapter_said seat outs (record h.world { up = xs }) in
+      let world : World D = adapter_said session_state outs (record h.world { up = xs }) in
       let step : ComesUp drive.follows h.world world =
       record {
         message = x;
@@ -337,7 +337,7 @@ module _ {D : Type 0} (laws : FrameLaws) (drive : Driving D) (agrees : EachSched
         plan = d.plan;
         taken = subst (λ (z : Message). takes z p.session ≡ Ok d.plan) same (subst (λ (z : Session). takes m z ≡ Ok d.plan) a.session_is d.is);
         step = record {
-          seat = seat;
+          adapter = session_state;
           session = step_of ends.adapter next p a d.plan used came taken.bytes.items s;
           reads_back = step_back ends.adapter next p a d.plan used came taken.bytes.items s;
           is = refl;

@@ -407,14 +407,14 @@ module _ {D : Type 0} (laws : FrameLaws) (drive : Driving D) (agrees : EachSched
 
   -- ---- the adapter goes on by itself
 
-  abbrev seat_after : AdapterState D → Session → SessionState D
-  seat_after new after = record { session = after; debuggee = new.debuggee }
+  abbrev state_after : AdapterState D → Session → SessionState D
+  state_after new after = record { session = after; debuggee = new.debuggee }
 
   abbrev out_of : World D → Made → List Message
   out_of start made = written_by start.adapter.session made
 
   abbrev spoke : AdapterState D → Made → World D → World D
-  spoke new made start = adapter_said (seat_after new made.after) (out_of start made) start
+  spoke new made start = adapter_said (state_after new made.after) (out_of start made) start
 
   pub step_framed : (ends : BothEnds D) (new : AdapterState D) (bytes given : List ℕ) (start : World D) (q : IsQuiet drive ends start) (plan : Plan) (s : Step drive.follows plan ends.adapter new [] [] bytes) → given ≡ bytes
       → IsUnwritten unwritten.Frames ends.reader given → ⊥
@@ -429,7 +429,7 @@ module _ {D : Type 0} (laws : FrameLaws) (drive : Driving D) (agrees : EachSched
         plan = t.plan;
         turned = rw (a.session_is, a.debuggee_is) at t.is;
         step = record {
-          seat = seat_after new t.step.session.made.after;
+          adapter = state_after new t.step.session.made.after;
           session = step_of laws drive agrees start ends.adapter new start.adapter a t.plan [] [] bytes t.step;
           reads_back = step_back laws drive agrees start ends.adapter new start.adapter a t.plan [] [] bytes t.step;
           is = refl;
@@ -441,7 +441,7 @@ module _ {D : Type 0} (laws : FrameLaws) (drive : Driving D) (agrees : EachSched
       let a = q.at.adapter_at in
       record {
         step = record {
-          seat = seat_after new t.step.session.made.after;
+          adapter = state_after new t.step.session.made.after;
           session = record {
             made = t.step.session.made;
             carried = subst (λ (z : Session). CarriedOut drive.follows (polls z) start.adapter.debuggee t.step.session.made new.debuggee) a.session_is (step_of laws drive agrees start ends.adapter new start.adapter a (polls ends.adapter.session) [] [] bytes t.step).carried;

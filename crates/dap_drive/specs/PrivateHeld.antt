@@ -45,10 +45,10 @@ pub record IsClientAt (limits : Settings) (e : ClientState) (session : ClientSes
   pub between : stands.received.rest ≡ []
 
 -- the same of an adapter
-pub record IsAdapterAt {D : Type 0} (limits : Settings) (e : AdapterState D) (seat : SessionState D) : Type 0 where
-  pub session_is : e.session ≡ seat.session
-  pub debuggee_is : e.debuggee ≡ seat.debuggee
-  pub limits_are : seat.session.limits ≡ limits
+pub record IsAdapterAt {D : Type 0} (limits : Settings) (e : AdapterState D) (session_state : SessionState D) : Type 0 where
+  pub session_is : e.session ≡ session_state.session
+  pub debuggee_is : e.debuggee ≡ session_state.debuggee
+  pub limits_are : session_state.session.limits ≡ limits
   pub came : List ℕ
   pub history : List Entry
   pub stands : AdapterStandsFor e came history

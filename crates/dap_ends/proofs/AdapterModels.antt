@@ -4,7 +4,7 @@ use Rattle.std.specs.Prelude.{◌==◌, ◌&&◌, if◌then◌else◌, ◌⊎◌
 use Rattle.std.specs.List.{list_any}
 use Rattle.std.proofs.lemmas.List.{append-nil}
 use Rattle.std.proofs.lemmas.List.Elements.{filter-append}
-use Rattle.dap_ends.specs.Messages.{Command, Initialize, Launch, ConfigurationDone, Disconnect, Terminate, Cancel, Setter, Lookup, Resume, Pause, Inspect, Unserved, Ask, Response, code, is_disconnect, has_seq, one_if, count, answered_in, NoRequests, answer_each}
+use Rattle.dap_ends.specs.Messages.{Command, Initialize, Launch, ConfigurationDone, Disconnect, Terminate, Restart, Cancel, Setter, Lookup, Resume, Pause, Inspect, Unserved, Ask, Response, code, is_disconnect, has_seq, one_if, count, answered_in, NoRequests, answer_each}
 use Rattle.dap_ends.specs.AdapterModel.{AdapterPhase, AdapterFresh, AdapterReady, AdapterConfigured, AdapterParked, AdapterAsked, AdapterRunning, AdapterStopped, AdapterExited, AdapterEnded, AdapterModel, Kept, Made, Answer, Fails, Succeeds, Tries, Parks, Starts_parked, Leaves, Happening, Stops, Continues, Exits, is_ended, is_parked_phase, asks, oldest, but_oldest, park_oldest, parked_of, unparked_of, is_named, requests_named, requests_not_named, answer_of, phase_after, events_after, phase_after_start, handled_as, after_turn, adapter_model_turns, asks_terminal_as, after_asking_turn, ends_wait, keeps, cancels, takes_request, phase_after_happening, events_after_happening, adapter_model_polls}
 use Rattle.dap_ends.proofs.Counts.{count-append, answered_in-append, answered-each, answered-events, NoRequests-append, NoRequests-each, NoRequests-events}
 
@@ -130,7 +130,9 @@ leaves-code _ Pause e = cc
 leaves-code AdapterFresh Inspect e = cc
 leaves-code _ Inspect e = cc
 leaves-code AdapterFresh Unserved e = cc
+leaves-code AdapterFresh Restart e = cc
 leaves-code _ Unserved e = cc
+leaves-code _ Restart e = cc
 
 parks-parked : (c : Command) → Parks ≡ answer_of AdapterParked c → is_parked_phase AdapterParked ≡ false
 parks-parked Launch e = cc
@@ -181,11 +183,11 @@ IsParkedRight d = length (parked_of d.kept) ≡ one_if (is_parked_phase d.phase)
 
 -- those that came and those kept are kept or answered
 pub record Steady (d : AdapterModel) (came : List Ask) (m : Made) : Type 0 where
-  pub balance : (p : Ask → Bool) → count p came + count p (asks d.kept) ≡ count p (asks m.desk.kept) + count p (answered_in m.outs)
+  pub balance : (p : Ask → Bool) → count p came + count p (asks d.kept) ≡ count p (asks m.adapter.kept) + count p (answered_in m.outs)
   pub down : NoRequests m.outs
-  pub fine : m.desk.fault ≡ None
-  pub parked : IsParkedRight m.desk
-  pub leaving : is_ended m.desk.phase ≡ true → (is_ended d.phase ≡ true) ⊎ (0 < count is_disconnect (asks d.kept))
+  pub fine : m.adapter.fault ≡ None
+  pub parked : IsParkedRight m.adapter
+  pub leaving : is_ended m.adapter.phase ≡ true → (is_ended d.phase ≡ true) ⊎ (0 < count is_disconnect (asks d.kept))
 
 phase_after_start-parked : (ok : Bool) → is_parked_phase (phase_after_start ok) ≡ false
 phase_after_start-parked true = refl
@@ -262,11 +264,11 @@ steady-poll d x f k =
       leaving = λ l. inl (sym (phase_after_happening-ended d.phase x) ∙ l);
     }
 
-steady-nothing : (d : AdapterModel) → d.fault ≡ None → IsParkedRight d → Steady d [] (record { desk = d; outs = [] })
+steady-nothing : (d : AdapterModel) → d.fault ≡ None → IsParkedRight d → Steady d [] (record { adapter = d; outs = [] })
 steady-nothing d f k = record { balance = λ p. omega arith; down = tt; fine = f; parked = k; leaving = λ l. inl l }
 
 -- a launch that asks for a terminal is parked
-steady-launch-asks : (d : AdapterModel) (a : Ask) → is_parked_phase d.phase ≡ false → oldest d.kept ≡ Some a → d.fault ≡ None → IsParkedRight d → Steady d [] (record { desk = record d { kept = park_oldest d.kept; phase = AdapterAsked }; outs = [] })
+steady-launch-asks : (d : AdapterModel) (a : Ask) → is_parked_phase d.phase ≡ false → oldest d.kept ≡ Some a → d.fault ≡ None → IsParkedRight d → Steady d [] (record { adapter = record d { kept = park_oldest d.kept; phase = AdapterAsked }; outs = [] })
 steady-launch-asks d a n o f k =
     record {
       balance = λ p. rw (park-asks d.kept) (omega arith);
@@ -277,7 +279,7 @@ steady-launch-asks d a n o f k =
     }
 
 -- configurationDone behind such a launch is answered
-steady-done-asks : (d : AdapterModel) (a : Ask) → is_parked_phase d.phase ≡ true → oldest d.kept ≡ Some a → d.fault ≡ None → IsParkedRight d → Steady d [] (record { desk = record d { kept = but_oldest d.kept; phase = AdapterAsked }; outs = Response a true ∷ [] })
+steady-done-asks : (d : AdapterModel) (a : Ask) → is_parked_phase d.phase ≡ true → oldest d.kept ≡ Some a → d.fault ≡ None → IsParkedRight d → Steady d [] (record { adapter = record d { kept = but_oldest d.kept; phase = AdapterAsked }; outs = Response a true ∷ [] })
 steady-done-asks d a n o f k =
     record {
       balance = λ p. let h = oldest-balance p d.kept a o in omega arith;
@@ -314,7 +316,7 @@ steady-ends_wait AdapterAsked d ok f k =
     }
 steady-ends_wait _ d ok f k = steady-nothing d f k
 
-keeps-cases : (b : Bool) (d : AdapterModel) (a : Ask) → d.fault ≡ None → IsParkedRight d → Steady d (a ∷ []) (if b then record { desk = record d { kept = d.kept ++ record { ask = a; parked = false } ∷ [] }; outs = [] } else record { desk = d; outs = Response a false ∷ [] })
+keeps-cases : (b : Bool) (d : AdapterModel) (a : Ask) → d.fault ≡ None → IsParkedRight d → Steady d (a ∷ []) (if b then record { adapter = record d { kept = d.kept ++ record { ask = a; parked = false } ∷ [] }; outs = [] } else record { adapter = d; outs = Response a false ∷ [] })
 keeps-cases true d a f k =
     record {
       balance = λ p. rw (asks-append d.kept (record { ask = a; parked = false } ∷ []), count-append p (asks d.kept) (a ∷ [])) (omega arith);
@@ -325,7 +327,7 @@ keeps-cases true d a f k =
     }
 keeps-cases false d a f k = record { balance = λ p. omega arith; down = (tt, tt); fine = f; parked = k; leaving = λ l. inl l }
 
-cancelled : (d : AdapterModel) (a : Ask) (q : ℕ) → d.fault ≡ None → IsParkedRight d → Steady d (a ∷ []) (record { desk = record d { kept = requests_not_named q d.kept }; outs = answer_each false (asks (requests_named q d.kept)) ++ Response a true ∷ [] })
+cancelled : (d : AdapterModel) (a : Ask) (q : ℕ) → d.fault ≡ None → IsParkedRight d → Steady d (a ∷ []) (record { adapter = record d { kept = requests_not_named q d.kept }; outs = answer_each false (asks (requests_named q d.kept)) ++ Response a true ∷ [] })
 cancelled d a q f k =
     record {
       balance = λ p. let g = part p (λ x. is_named q x) d.kept in rw (answered_in-append (answer_each false (asks (requests_named q d.kept))) (Response a true ∷ []), answered-each false (asks (requests_named q d.kept)), count-append p (asks (requests_named q d.kept)) (a ∷ [])) (omega arith);

@@ -2,11 +2,10 @@
 use Rattle.std.proofs.Common.{filter, ◌≡◌, ℕ, ◌+◌, ◌<◌, ◌≤◌, List, [], ◌∷◌, ◌++◌, Bool, true, false, not, refl, sym, ap, ◌∙◌, subst, arith, length, inl, inr, Option, Some, None}
 use Rattle.std.specs.Prelude.{◌⊎◌, ◌==◌, ◌&&◌, if◌then◌else◌, nat_lt}
 use Rattle.std.specs.List.{list_any}
-use Rattle.std.specs.Set.{distinct_count}
-use Rattle.dap_ends.specs.Messages.{Command, Initialize, Launch, ConfigurationDone, Disconnect, Terminate, Cancel, Setter, Lookup, Resume, Pause, Inspect, Unserved, Ask, Message, Request, Response, Event, one_if, code, count, has_seq, requests_in, answered_in}
-use Rattle.dap_ends.specs.AdapterModel.{AdapterModel, Made, Kept, Answer, Fails, Succeeds, Tries, Parks, Starts_parked, Leaves, Happening, Stops, Continues, Exits, RequestAfterEnd, RepeatedSeq, asks, oldest, but_oldest, parked_of, is_named, requests_named, answer_of, phase_after, phase_after_start, handled_as, after_turn, fails_with, keeps, cancels, takes_request, is_ended, phase_after_happening, would_start, asks_terminal_as, after_asking_turn, ends_wait, AdapterPhase, AdapterFresh, AdapterReady, AdapterConfigured, AdapterParked, AdapterAsked, AdapterRunning, AdapterStopped, AdapterExited, AdapterEnded}
-use Rattle.dap_ends.specs.ClientModel.{ClientModel, ReferenceLimit, Phase, Fresh, Initializing, Configuring, Running, Stopped, Resuming, Exited, Ended, allows, may_send, next_ask, client_model_takes, requests_without}
-use Rattle.dap_ends.specs.References.{Ref, inspection_succeeds, all_in, references_carried, same_ref, given_after, plain_world}
+use Rattle.dap_ends.specs.Messages.{Command, Initialize, Launch, ConfigurationDone, Terminate, Resume, Ask, Message, Request, Response, Event, one_if, code, count, has_seq, requests_in, answered_in}
+use Rattle.dap_ends.specs.AdapterModel.{AdapterModel, Made, Kept, Answer, Fails, Succeeds, Tries, Parks, Starts_parked, Leaves, Happening, Stops, Continues, Exits, RequestAfterEnd, RepeatedSeq, asks, oldest, but_oldest, parked_of, is_named, requests_named, answer_of, phase_after, phase_after_start, handled_as, after_turn, fails_with, keeps, cancels, takes_request, is_ended, phase_after_happening, would_start, asks_terminal_as, after_asking_turn, ends_wait, AdapterPhase, AdapterFresh, AdapterReady, AdapterConfigured, AdapterParked, AdapterAsked, AdapterRunning, AdapterStopped, AdapterEnded}
+use Rattle.dap_ends.specs.ClientModel.{ClientModel, ReferenceLimit, Phase, Fresh, allows, may_send, next_ask, client_model_takes, requests_without}
+use Rattle.dap_ends.specs.References.{Ref, inspection_succeeds, all_in, references_carried, given_with, given_after, plain_world}
 use Rattle.dap_ends.specs.Standing.{is_initialize}
 use Rattle.dap_ends.specs.Pair.{NumberedNote, Pair, PairStep, PairSend, PairAnswer, PairDeliverUp, PairTurn, PairPoll, PairDeliverDown, pair_start, is_terminal_ask, has_fault, request_with_seq, sets_variable, unless_sets_variable, with_fault, announced_after_sending, pair_after_sending, pair_sends, replies, pair_answers, pair_after_adapter, pair_takes_up, pair_comes_up, launch_seq, turn_asks, terminal_after_command, terminal_after_turn, writes_terminal_ask, pair_asks_terminal, pair_after_turn, pair_eyes, pair_takes_down, pair_comes_down, pair_happens, pair_run, request_in, requests_up, client_world, client_world_with}
 use Rattle.dap_ends.specs.PairLaws.{messages_in, UnansweredByPhase, IsKeptNext, KeepsNext}
@@ -30,17 +29,17 @@ announces_terminal wants a = is_initialize a && wants a.seq
 
 -- the requests that are not answered
 abbrev pub announcements_waiting : Pair → (Ask → Bool) → ℕ
-announcements_waiting w p = count p (asks w.desk.kept) + count p (requests_in (requests_up w.up))
+announcements_waiting w p = count p (asks w.adapter.kept) + count p (requests_in (requests_up w.up))
 
 -- what the adapter was told the client still says
 pub record Announces (w : Pair) : Type 0 where
   pub told : w.terminal ≡ true → w.announced ≡ true
-  pub early : w.desk.phase ≡ AdapterFresh → w.terminal ≡ false
+  pub early : w.adapter.phase ≡ AdapterFresh → w.terminal ≡ false
   pub sent : 0 < announcements_waiting w (announces_terminal w.wants) → w.announced ≡ true
   pub asks : 0 < length w.asked → w.announced ≡ true
 
 -- a step that announces nothing
-announces-less : (w v : Pair) → v.announced ≡ w.announced → v.terminal ≡ w.terminal → (v.desk.phase ≡ AdapterFresh → w.desk.phase ≡ AdapterFresh) → announcements_waiting v (announces_terminal v.wants) ≤ announcements_waiting w (announces_terminal w.wants) → length v.asked ≤ length w.asked → Announces w → Announces v
+announces-less : (w v : Pair) → v.announced ≡ w.announced → v.terminal ≡ w.terminal → (v.adapter.phase ≡ AdapterFresh → w.adapter.phase ≡ AdapterFresh) → announcements_waiting v (announces_terminal v.wants) ≤ announcements_waiting w (announces_terminal w.wants) → length v.asked ≤ length w.asked → Announces w → Announces v
 announces-less w v a t f c l g =
     record {
       told = λ e. a ∙ g.told (sym t ∙ e);
@@ -81,7 +80,7 @@ fresh-after_start : (ok : Bool) → phase_after_start ok ≡ AdapterFresh → �
 fresh-after_start true e = cc
 fresh-after_start false e = cc
 
-fresh-handled : (x : Answer) (d : AdapterModel) (a : Ask) (ok : Bool) → (handled_as x d a ok).desk.phase ≡ AdapterFresh → d.phase ≡ AdapterFresh
+fresh-handled : (x : Answer) (d : AdapterModel) (a : Ask) (ok : Bool) → (handled_as x d a ok).adapter.phase ≡ AdapterFresh → d.phase ≡ AdapterFresh
 fresh-handled Fails d a ok e = e
 fresh-handled Succeeds d a ok e = fresh-after d.phase a.command true e
 fresh-handled Tries d a ok e = fresh-after d.phase a.command ok e
@@ -99,7 +98,7 @@ fresh-after_happening AdapterStopped Exits e = cc
 fresh-after_happening AdapterStopped _ e = cc
 fresh-after_happening _ x e = cc
 
-fresh-ends_wait : (p : AdapterPhase) (d : AdapterModel) (ok : Bool) → d.phase ≡ p → (ends_wait p d ok).desk.phase ≡ AdapterFresh → d.phase ≡ AdapterFresh
+fresh-ends_wait : (p : AdapterPhase) (d : AdapterModel) (ok : Bool) → d.phase ≡ p → (ends_wait p d ok).adapter.phase ≡ AdapterFresh → d.phase ≡ AdapterFresh
 fresh-ends_wait AdapterAsked d ok e h = absurd (fresh-after_start ok h)
 fresh-ends_wait _ d ok e h = h
 
@@ -149,7 +148,7 @@ but-fewer p ks = by-oldest (oldest ks) refl
     by-oldest None e = rw (none-out ks e) (omega arith)
     by-oldest (Some a) e = let h = oldest-balance p ks a e in omega arith
 
-handled-kept : (x : Answer) (p : Ask → Bool) (d : AdapterModel) (a : Ask) (ok : Bool) → count p (asks (handled_as x d a ok).desk.kept) ≤ count p (asks d.kept)
+handled-kept : (x : Answer) (p : Ask → Bool) (d : AdapterModel) (a : Ask) (ok : Bool) → count p (asks (handled_as x d a ok).adapter.kept) ≤ count p (asks d.kept)
 handled-kept Fails p d a ok = but-fewer p d.kept
 handled-kept Succeeds p d a ok = but-fewer p d.kept
 handled-kept Tries p d a ok = but-fewer p d.kept
@@ -157,28 +156,28 @@ handled-kept Parks p d a ok = rw (park-asks d.kept) (omega arith)
 handled-kept Starts_parked p d a ok = let h = filter-fewer p (λ k. not k.parked) (but_oldest d.kept) in let k = but-fewer p d.kept in omega arith
 handled-kept Leaves p d a ok = omega arith
 
-after_turn-kept : (o : Option Ask) (p : Ask → Bool) (d : AdapterModel) (ok : Bool) → count p (asks (after_turn o d ok).desk.kept) ≤ count p (asks d.kept)
+after_turn-kept : (o : Option Ask) (p : Ask → Bool) (d : AdapterModel) (ok : Bool) → count p (asks (after_turn o d ok).adapter.kept) ≤ count p (asks d.kept)
 after_turn-kept None p d ok = omega arith
 after_turn-kept (Some a) p d ok = handled-kept (answer_of d.phase a.command) p d a ok
 
-asks_terminal_as-kept : (ph : AdapterPhase) (c : Command) (p : Ask → Bool) (d : AdapterModel) (a : Ask) → count p (asks (asks_terminal_as ph c d a).desk.kept) ≤ count p (asks d.kept)
+asks_terminal_as-kept : (ph : AdapterPhase) (c : Command) (p : Ask → Bool) (d : AdapterModel) (a : Ask) → count p (asks (asks_terminal_as ph c d a).adapter.kept) ≤ count p (asks d.kept)
 asks_terminal_as-kept AdapterConfigured Launch p d a = rw (park-asks d.kept) (omega arith)
 asks_terminal_as-kept AdapterParked ConfigurationDone p d a = but-fewer p d.kept
 asks_terminal_as-kept _ _ p d a = omega arith
 
-ends_wait-kept : (ph : AdapterPhase) (p : Ask → Bool) (d : AdapterModel) (ok : Bool) → count p (asks (ends_wait ph d ok).desk.kept) ≤ count p (asks d.kept)
+ends_wait-kept : (ph : AdapterPhase) (p : Ask → Bool) (d : AdapterModel) (ok : Bool) → count p (asks (ends_wait ph d ok).adapter.kept) ≤ count p (asks d.kept)
 ends_wait-kept AdapterAsked p d ok = filter-fewer p (λ k. not k.parked) d.kept
 ends_wait-kept _ p d ok = omega arith
 
-cancels-kept : (ph : AdapterPhase) (p : Ask → Bool) (d : AdapterModel) (a : Ask) (q : ℕ) → count p (asks (cancels ph d a q).desk.kept) ≤ count p (asks d.kept) + one_if (p a)
+cancels-kept : (ph : AdapterPhase) (p : Ask → Bool) (d : AdapterModel) (a : Ask) (q : ℕ) → count p (asks (cancels ph d a q).adapter.kept) ≤ count p (asks d.kept) + one_if (p a)
 cancels-kept AdapterFresh p d a q = omega arith
 cancels-kept _ p d a q = let h = filter-fewer p (λ k. not (is_named q k)) d.kept in omega arith
 
 -- at most that one more is kept
 abbrev KeptAtMost : (Ask → Bool) → AdapterModel → Ask → Made → Type 0
-KeptAtMost p d a m = count p (asks m.desk.kept) ≤ count p (asks d.kept) + one_if (p a)
+KeptAtMost p d a m = count p (asks m.adapter.kept) ≤ count p (asks d.kept) + one_if (p a)
 
-keeps-kept : (b : Bool) (p : Ask → Bool) (d : AdapterModel) (a : Ask) → KeptAtMost p d a (if b then record { desk = record d { kept = d.kept ++ record { ask = a; parked = false } ∷ [] }; outs = [] } else record { desk = d; outs = Response a false ∷ [] })
+keeps-kept : (b : Bool) (p : Ask → Bool) (d : AdapterModel) (a : Ask) → KeptAtMost p d a (if b then record { adapter = record d { kept = d.kept ++ record { ask = a; parked = false } ∷ [] }; outs = [] } else record { adapter = d; outs = Response a false ∷ [] })
 keeps-kept true p d a = rw (asks-append d.kept (record { ask = a; parked = false } ∷ []), count-append p (asks d.kept) (a ∷ [])) (omega arith)
 keeps-kept false p d a = omega arith
 
@@ -193,44 +192,44 @@ takes-kept n p d a q =
     (kept-if (code a.command == 5) p d a (cancels d.phase d a q) (keeps n d a) (cancels-kept d.phase p d a q) (keeps-kept (nat_lt (length d.kept) n) p d a)))
 
 -- a request that is sent
-after_sending-announces : (b : Bool) (n : ℕ) (w : Pair) (c : Command) (i : List ℕ) (q : ℕ) (wanted : Bool) (refs : List Ref) → (code c == 0) ≡ b → allows w.seat.phase w.seat.ready c ≡ true → Agree n (plain_world (client_world w)) → Begins (plain_world (client_world w)) → Owns w → Announces w → Announces (pair_after_sending w c i q wanted refs)
+after_sending-announces : (b : Bool) (n : ℕ) (w : Pair) (c : Command) (i : List ℕ) (q : ℕ) (wanted : Bool) (refs : List Ref) → (code c == 0) ≡ b → allows w.client.phase w.client.ready c ≡ true → Agree n (plain_world (client_world w)) → Begins (plain_world (client_world w)) → Owns w → Announces w → Announces (pair_after_sending w c i q wanted refs)
 after_sending-announces false n w c i q wanted refs e m g b o a =
-    let k = w.seat.last + 1 in
+    let k = w.client.last + 1 in
     let wants : ℕ → Bool = λ j. if j == k then wanted else w.wants j in
-    let x = next_ask w.seat c i in
+    let x = next_ask w.client c i in
     let fresh = g.new k (omega arith) in
     let place = g.place (has_seq k) in
-    let old_kept = announcing-old w.wants k wanted (asks w.desk.kept) (omega arith) in
+    let old_kept = announcing-old w.wants k wanted (asks w.adapter.kept) (omega arith) in
     let old_up = announcing-old w.wants k wanted (requests_in (requests_up w.up)) (omega arith) in
     let none : one_if (announces_terminal wants x) ≡ 0 = rw e refl in
     announces-less w (pair_after_sending w c i q wanted refs) (quiet-sent c wanted w.announced e) refl (λ z. z)
     (rw (requests_up-append w.up _, requests_in-append (requests_up w.up) _, count-append (announces_terminal wants) (requests_in (requests_up w.up)) (x ∷ [])) (omega arith)) (omega arith) a
 after_sending-announces true n w c i q wanted refs e m g b o a =
     let first : c ≡ Initialize = is-first c e in
-    let fresh : w.seat.phase ≡ Fresh = sends-fresh w.seat.phase w.seat.ready (subst (λ (d : Command). allows w.seat.phase w.seat.ready d ≡ true) first m) in
+    let fresh : w.client.phase ≡ Fresh = sends-fresh w.client.phase w.client.ready (subst (λ (d : Command). allows w.client.phase w.client.ready d ≡ true) first m) in
     let begin = b.fresh fresh in
-    let desk = begin.1 in
-    let k = w.seat.last + 1 in
+    let adapter = begin.1 in
+    let k = w.client.last + 1 in
     let wants : ℕ → Bool = λ j. if j == k then wanted else w.wants j in
-    let x = next_ask w.seat c i in
+    let x = next_ask w.client c i in
     let out = ap (λ (xs : List Ask). count (announces_terminal wants) xs) begin.0 in
     let place = g.place (announces_terminal wants) in
-    let zero : count (announces_terminal wants) (asks w.desk.kept) + count (announces_terminal wants) (requests_in (requests_up w.up)) ≡ 0 = omega arith in
+    let zero : count (announces_terminal wants) (asks w.adapter.kept) + count (announces_terminal wants) (requests_in (requests_up w.up)) ≡ 0 = omega arith in
     let says : announces_terminal wants x ≡ wanted = rw (e, eqb-self k) refl in
-    let waits : length w.asked ≡ 0 = subst (λ (p : AdapterPhase). UnansweredByPhase p (length w.asked)) desk o.waits in
+    let waits : length w.asked ≡ 0 = subst (λ (p : AdapterPhase). UnansweredByPhase p (length w.asked)) adapter o.waits in
     let now : announced_after_sending c wanted w.announced ≡ wanted = ap (λ (d : Command). announced_after_sending d wanted w.announced) first in
-    let more : announcements_waiting (pair_after_sending w c i q wanted refs) (announces_terminal wants) ≡ (count (announces_terminal wants) (asks w.desk.kept) + count (announces_terminal wants) (requests_in (requests_up w.up))) + (one_if (announces_terminal wants x) + 0) =
+    let more : announcements_waiting (pair_after_sending w c i q wanted refs) (announces_terminal wants) ≡ (count (announces_terminal wants) (asks w.adapter.kept) + count (announces_terminal wants) (requests_in (requests_up w.up))) + (one_if (announces_terminal wants x) + 0) =
     rw (requests_up-append w.up _, requests_in-append (requests_up w.up) _, count-append (announces_terminal wants) (requests_in (requests_up w.up)) (x ∷ [])) (omega arith) in
     record {
-      told = λ t. absurd (true-false (sym t ∙ a.early desk));
+      told = λ t. absurd (true-false (sym t ∙ a.early adapter));
       early = a.early;
-      sent = λ h. now ∙ sym says ∙ flag-true (announces_terminal wants x) (count (announces_terminal wants) (asks w.desk.kept) + count (announces_terminal wants) (requests_in (requests_up w.up))) zero (omega arith);
+      sent = λ h. now ∙ sym says ∙ flag-true (announces_terminal wants x) (count (announces_terminal wants) (asks w.adapter.kept) + count (announces_terminal wants) (requests_in (requests_up w.up))) zero (omega arith);
       asks = λ h. absurd (omega arith);
     }
 
-sends-announces : (b : Bool) (n : ℕ) (w : Pair) (c : Command) (i : List ℕ) (q : ℕ) (wanted : Bool) (refs : List Ref) → (all_in w.given refs && may_send n w.seat c) ≡ b → Agree n (plain_world (client_world w)) → Begins (plain_world (client_world w)) → Owns w → Announces w → Announces (if b then pair_after_sending w c i q wanted refs else w)
+sends-announces : (b : Bool) (n : ℕ) (w : Pair) (c : Command) (i : List ℕ) (q : ℕ) (wanted : Bool) (refs : List Ref) → (all_in w.given refs && may_send n w.client c) ≡ b → Agree n (plain_world (client_world w)) → Begins (plain_world (client_world w)) → Owns w → Announces w → Announces (if b then pair_after_sending w c i q wanted refs else w)
 sends-announces true n w c i q wanted refs e g b o a =
-    after_sending-announces (code c == 0) n w c i q wanted refs refl (and-left (allows w.seat.phase w.seat.ready c) (nat_lt (length w.seat.asked) n) (and-right (all_in w.given refs) (may_send n w.seat c) e)) g b o a
+    after_sending-announces (code c == 0) n w c i q wanted refs refl (and-left (allows w.client.phase w.client.ready c) (nat_lt (length w.client.asked) n) (and-right (all_in w.given refs) (may_send n w.client c) e)) g b o a
 sends-announces false n w c i q wanted refs e g b o a = a
 
 -- a response of the client is no request
@@ -249,9 +248,9 @@ up-announcements w m x ms p e u = ap (λ (zs : List NumberedNote). count p (requ
 
 takes_up-announces : (n : ℕ) (w : Pair) (m : NumberedNote) (x : Message) (ms : List NumberedNote) (starts : Bool) → m.note.message ≡ x → w.up ≡ m ∷ ms → Owns w → Announces w → Announces (pair_takes_up n (record w { up = ms }) x starts)
 takes_up-announces n w m (Request a q) ms starts e u o g =
-    let k = takes-kept n (announces_terminal w.wants) w.desk a q in
+    let k = takes-kept n (announces_terminal w.wants) w.adapter a q in
     let h = up-announcements w m (Request a q) ms (announces_terminal w.wants) e u in
-    announces-less w _ refl refl (λ z. sym (phase-takes n w.desk a q) ∙ z) (omega arith) (omega arith) g
+    announces-less w _ refl refl (λ z. sym (phase-takes n w.adapter a q) ∙ z) (omega arith) (omega arith) g
 takes_up-announces n w m (Event k) ms starts e u o g =
     let h = up-announcements w m (Event k) ms (announces_terminal w.wants) e u in announces-less w (record w { up = ms }) refl refl (λ z. z) (omega arith) (omega arith) g
 takes_up-announces n w m (Response a ok) ms starts e u o g =
@@ -260,23 +259,23 @@ takes_up-announces n w m (Response a ok) ms starts e u o g =
     let two = count-all (requests_without a.seq w.asked) in
     let less = requests_without-fewer (λ x. true) a.seq w.asked in
     let up = up-announcements w m (Response a ok) ms (announces_terminal w.wants) e u in
-    let kept = ends_wait-kept w.desk.phase (announces_terminal w.wants) w.desk (ok && starts) in
-    rw (response-taken (record w { up = ms }) a ok starts h.0 h.1) (announces-less w _ refl refl (λ z. fresh-ends_wait w.desk.phase w.desk (ok && starts) refl z) (omega arith) (omega arith) g)
+    let kept = ends_wait-kept w.adapter.phase (announces_terminal w.wants) w.adapter (ok && starts) in
+    rw (response-taken (record w { up = ms }) a ok starts h.0 h.1) (announces-less w _ refl refl (λ z. fresh-ends_wait w.adapter.phase w.adapter (ok && starts) refl z) (omega arith) (omega arith) g)
 
 up-announces : (n : ℕ) (w : Pair) (up : List NumberedNote) (starts : Bool) → w.up ≡ up → Owns w → Announces w → Announces (pair_comes_up n w up starts)
 up-announces n w [] starts u o g = g
 up-announces n w (m ∷ ms) starts u o g = takes_up-announces n w m m.note.message ms starts refl u o g
 
 -- a turn that asks
-asks-announces : (o : Option Ask) (w : Pair) → turn_asks w o ≡ true → Announces w → Announces (writes_terminal_ask (pair_after_adapter w (after_asking_turn o w.desk) [] w.table))
+asks-announces : (o : Option Ask) (w : Pair) → turn_asks w o ≡ true → Announces w → Announces (writes_terminal_ask (pair_after_adapter w (after_asking_turn o w.adapter) [] w.table))
 asks-announces None w e g = absurd (true-false (sym e))
 asks-announces (Some a) w e g =
-    let s = and-left (would_start w.desk.phase a.command) (w.terminal && w.wants (launch_seq a.command a (asks (parked_of w.desk.kept)))) e in
-    let t = and-left w.terminal (w.wants (launch_seq a.command a (asks (parked_of w.desk.kept)))) (and-right (would_start w.desk.phase a.command) (w.terminal && w.wants (launch_seq a.command a (asks (parked_of w.desk.kept)))) e) in
-    let k = asks_terminal_as-kept w.desk.phase a.command (announces_terminal w.wants) w.desk a in
+    let s = and-left (would_start w.adapter.phase a.command) (w.terminal && w.wants (launch_seq a.command a (asks (parked_of w.adapter.kept)))) e in
+    let t = and-left w.terminal (w.wants (launch_seq a.command a (asks (parked_of w.adapter.kept)))) (and-right (would_start w.adapter.phase a.command) (w.terminal && w.wants (launch_seq a.command a (asks (parked_of w.adapter.kept)))) e) in
+    let k = asks_terminal_as-kept w.adapter.phase a.command (announces_terminal w.wants) w.adapter a in
     record {
       told = g.told;
-      early = λ z. absurd (let y : AdapterAsked ≡ AdapterFresh = sym (asks-phase w.desk.phase a.command w.desk a s) ∙ z in cc);
+      early = λ z. absurd (let y : AdapterAsked ≡ AdapterFresh = sym (asks-phase w.adapter.phase a.command w.adapter a s) ∙ z in cc);
       sent = λ h. g.sent (omega arith);
       asks = λ h. g.told t;
     }
@@ -287,76 +286,76 @@ terminal_after_command-cases AdapterFresh Initialize wanted old = inl (refl, ref
 terminal_after_command-cases AdapterFresh _ wanted old = inr refl
 terminal_after_command-cases _ c wanted old = inr refl
 
-initialize-phase : (d : AdapterModel) (a : Ask) (ok : Bool) → d.phase ≡ AdapterFresh → a.command ≡ Initialize → (handled_as (answer_of d.phase a.command) d a ok).desk.phase ≡ AdapterReady
+initialize-phase : (d : AdapterModel) (a : Ask) (ok : Bool) → d.phase ≡ AdapterFresh → a.command ≡ Initialize → (handled_as (answer_of d.phase a.command) d a ok).adapter.phase ≡ AdapterReady
 initialize-phase d a ok e f = rw (e, f) refl
 
-after_turn-announces : (o : Option Ask) (w v : Pair) (ok : Bool) → oldest w.desk.kept ≡ o → v.announced ≡ w.announced → v.terminal ≡ terminal_after_turn w.desk.phase o w.wants w.terminal → v.desk.phase ≡ (after_turn o w.desk ok).desk.phase → v.desk.kept ≡ (after_turn o w.desk ok).desk.kept → v.up ≡ w.up → v.wants ≡ w.wants → v.asked ≡ w.asked → Announces w → Announces v
+after_turn-announces : (o : Option Ask) (w v : Pair) (ok : Bool) → oldest w.adapter.kept ≡ o → v.announced ≡ w.announced → v.terminal ≡ terminal_after_turn w.adapter.phase o w.wants w.terminal → v.adapter.phase ≡ (after_turn o w.adapter ok).adapter.phase → v.adapter.kept ≡ (after_turn o w.adapter ok).adapter.kept → v.up ≡ w.up → v.wants ≡ w.wants → v.asked ≡ w.asked → Announces w → Announces v
 after_turn-announces None w v ok o a t p d u y k h =
     announces-less w v a t (λ z. sym p ∙ z) (rw (d, u, y) (omega arith)) (rw k (omega arith)) h
 after_turn-announces (Some x) w v ok o a t p d u y k h =
-    let less = after_turn-kept (Some x) (announces_terminal w.wants) w.desk ok in
-    elim (terminal_after_command-cases w.desk.phase x.command (w.wants x.seq) w.terminal) [
-      | inr same ↦ announces-less w v a (t ∙ same) (λ z. fresh-handled (answer_of w.desk.phase x.command) w.desk x ok (sym p ∙ z)) (rw (d, u, y) (omega arith)) (rw k (omega arith)) h
+    let less = after_turn-kept (Some x) (announces_terminal w.wants) w.adapter ok in
+    elim (terminal_after_command-cases w.adapter.phase x.command (w.wants x.seq) w.terminal) [
+      | inr same ↦ announces-less w v a (t ∙ same) (λ z. fresh-handled (answer_of w.adapter.phase x.command) w.adapter x ok (sym p ∙ z)) (rw (d, u, y) (omega arith)) (rw k (omega arith)) h
       | inl told ↦
           let wanted : v.terminal ≡ w.wants x.seq = t ∙ told.2 in
           let here : w.wants x.seq ≡ true → w.announced ≡ true = λ z.
           let yes : announces_terminal w.wants x ≡ true = rw (told.1, z) refl in
           let one = ap one_if yes in
-          let kept = oldest-balance (announces_terminal w.wants) w.desk.kept x o in
+          let kept = oldest-balance (announces_terminal w.wants) w.adapter.kept x o in
           h.sent (omega arith) in
           let fewer : announcements_waiting v (announces_terminal v.wants) ≤ announcements_waiting w (announces_terminal w.wants) = rw (d, u, y) (omega arith) in
           record {
             told = λ z. a ∙ here (sym wanted ∙ z);
-            early = λ z. absurd (let e : AdapterReady ≡ AdapterFresh = sym (initialize-phase w.desk x ok told.0 told.1) ∙ sym p ∙ z in cc);
+            early = λ z. absurd (let e : AdapterReady ≡ AdapterFresh = sym (initialize-phase w.adapter x ok told.0 told.1) ∙ sym p ∙ z in cc);
             sent = λ z. a ∙ h.sent (omega arith);
             asks = λ z. a ∙ h.asks (subst (λ (xs : List Ask). 0 < length xs) k z);
           }
     ]
 
-turn-announces : (b : Bool) (r : ℕ) (w : Pair) (ok : Bool) (more : List Bool) (requests_named : List Ref) → turn_asks w (oldest w.desk.kept) ≡ b → Announces w → Announces (if b then pair_asks_terminal w else pair_after_turn r w ok more requests_named)
-turn-announces true r w ok more requests_named e a = asks-announces (oldest w.desk.kept) w e a
+turn-announces : (b : Bool) (r : ℕ) (w : Pair) (ok : Bool) (more : List Bool) (requests_named : List Ref) → turn_asks w (oldest w.adapter.kept) ≡ b → Announces w → Announces (if b then pair_asks_terminal w else pair_after_turn r w ok more requests_named)
+turn-announces true r w ok more requests_named e a = asks-announces (oldest w.adapter.kept) w e a
 turn-announces false r w ok more requests_named e a =
-    after_turn-announces (oldest w.desk.kept) w (pair_after_turn r w ok more requests_named) (inspection_succeeds r w.table more requests_named (oldest w.desk.kept) ok) refl refl refl refl refl refl refl refl a
+    after_turn-announces (oldest w.adapter.kept) w (pair_after_turn r w ok more requests_named) (inspection_succeeds r w.table more requests_named (oldest w.adapter.kept) ok) refl refl refl refl refl refl refl refl a
 
 request-announces : (b : Bool) (w : Pair) (a : Ask) (ms : List NumberedNote) → Announces w → Announces (if b then record w { down = ms; incoming = w.incoming ++ a ∷ [] } else replies (record w { down = ms }) a false)
 request-announces true w a ms g = announces-less w (record w { down = ms; incoming = w.incoming ++ a ∷ [] }) refl refl (λ z. z) (omega arith) (omega arith) g
 request-announces false w a ms g =
     let h = reply-announcements (record w { down = ms }) a false (announces_terminal w.wants) in announces-less w (replies (record w { down = ms }) a false) refl refl (λ z. z) (omega arith) (omega arith) g
 
-report-announces : (b : Bool) (w : Pair) (x : Message) (refs : List Ref) (ms : List NumberedNote) → Announces w → Announces (if b then with_fault (record w { down = ms }) ReferenceLimit else record w { down = ms; seat = client_model_takes w.seat x; given = given_after (pair_eyes w) x refs })
+report-announces : (b : Bool) (w : Pair) (x : Message) (refs : List Ref) (ms : List NumberedNote) → Announces w → Announces (if b then with_fault (record w { down = ms }) ReferenceLimit else record w { down = ms; client = client_model_takes w.client x; given = given_after (pair_eyes w) x refs })
 report-announces true w x refs ms g = announces-less w (with_fault (record w { down = ms }) ReferenceLimit) refl refl (λ z. z) (omega arith) (omega arith) g
-report-announces false w x refs ms g = announces-less w (record w { down = ms; seat = client_model_takes w.seat x; given = given_after (pair_eyes w) x refs }) refl refl (λ z. z) (omega arith) (omega arith) g
+report-announces false w x refs ms g = announces-less w (record w { down = ms; client = client_model_takes w.client x; given = given_after (pair_eyes w) x refs }) refl refl (λ z. z) (omega arith) (omega arith) g
 
 takes_down-announces : (n r : ℕ) (w : Pair) (m : NumberedNote) (x : Message) (ms : List NumberedNote) → m.note.message ≡ x → w.down ≡ m ∷ ms → Owns w → Announces w → Announces (pair_takes_down n r (record w { down = ms }) x m.note.refs)
 takes_down-announces n r w m (Request a q) ms e u o g =
     rw (request-taken n (record w { down = ms }) a (new-next w m (Request a q) ms e u o)) (request-announces (is_terminal_ask a && (w.announced && nat_lt (length w.incoming) n)) w a ms g)
-takes_down-announces n r w m (Response a ok) ms e u o g = report-announces (nat_lt r (distinct_count same_ref (given_after (pair_eyes w) (Response a ok) m.note.refs))) w (Response a ok) m.note.refs ms g
-takes_down-announces n r w m (Event k) ms e u o g = report-announces (nat_lt r (distinct_count same_ref (given_after (pair_eyes w) (Event k) m.note.refs))) w (Event k) m.note.refs ms g
+takes_down-announces n r w m (Response a ok) ms e u o g = report-announces (nat_lt r (length (given_with (pair_eyes w) (Response a ok) m.note.refs))) w (Response a ok) m.note.refs ms g
+takes_down-announces n r w m (Event k) ms e u o g = report-announces (nat_lt r (length (given_with (pair_eyes w) (Event k) m.note.refs))) w (Event k) m.note.refs ms g
 
 down-announces : (n r : ℕ) (w : Pair) (down : List NumberedNote) → w.down ≡ down → Owns w → Announces w → Announces (pair_comes_down n r w down)
 down-announces n r w [] u o g = g
 down-announces n r w (m ∷ ms) u o g = takes_down-announces n r w m m.note.message ms refl u o g
 
 -- a client that a fault has closed sends nothing
-send-cases : (b : Bool) (n r : ℕ) (w : Pair) (c : Command) (i : List ℕ) (q : ℕ) (wanted : Bool) (refs : List Ref) → has_fault w.seat.fault ≡ b → Follows n r w → Announces w → Announces (if b then w else pair_sends n w c i q wanted refs)
+send-cases : (b : Bool) (n r : ℕ) (w : Pair) (c : Command) (i : List ℕ) (q : ℕ) (wanted : Bool) (refs : List Ref) → has_fault w.client.fault ≡ b → Follows n r w → Announces w → Announces (if b then w else pair_sends n w c i q wanted refs)
 send-cases true n r w c i q wanted refs e f a = a
 send-cases false n r w c i q wanted refs e f a =
-    let z : w.seat.fault ≡ None = no-fault w.seat.fault e in
+    let z : w.client.fault ≡ None = no-fault w.client.fault e in
     let s = f.fine z in
     let g : Agree n (plain_world (client_world w)) = subst (λ (x : ClientModel). Agree n (plain_world (client_world_with x w))) s (follows-tells n r w f).agree in
-    let t : Begins (plain_world (client_world_with f.seat w)) = subst (λ (y : WorldWithTranscript). Begins y.world) f.same (begins n f.steps) in
+    let t : Begins (plain_world (client_world_with f.client w)) = subst (λ (y : WorldWithTranscript). Begins y.world) f.same (begins n f.steps) in
     let b : Begins (plain_world (client_world w)) = subst (λ (x : ClientModel). Begins (plain_world (client_world_with x w))) s t in
-    sends-announces (all_in w.given refs && may_send n w.seat c) n w c i q wanted refs refl g b f.owns a
+    sends-announces (all_in w.given refs && may_send n w.client c) n w c i q wanted refs refl g b f.owns a
 
 -- each step
 pub announces-step : (n r : ℕ) (w : Pair) (x : PairStep) → Follows n r w → Announces w → Announces (pair_happens n r w x)
-announces-step n r w (PairSend c i q wanted refs) f a = send-cases (has_fault w.seat.fault) n r w c i q wanted (references_carried c refs) refl f a
-announces-step n r w (PairAnswer q ok) f a = announces-if (has_fault w.seat.fault) w _ a (answers-announces w (request_with_seq q w.incoming) ok a)
+announces-step n r w (PairSend c i q wanted refs) f a = send-cases (has_fault w.client.fault) n r w c i q wanted (references_carried c refs) refl f a
+announces-step n r w (PairAnswer q ok) f a = announces-if (has_fault w.client.fault) w _ a (answers-announces w (request_with_seq q w.incoming) ok a)
 announces-step n r w (PairDeliverUp starts) f a = up-announces n w w.up starts refl f.owns a
 announces-step n r w (PairTurn ok more requests_named) f a =
-    turn-announces (turn_asks w (oldest w.desk.kept)) r w ok (unless_sets_variable (sets_variable (oldest w.desk.kept)) more) (unless_sets_variable (sets_variable (oldest w.desk.kept)) requests_named) refl a
-announces-step n r w (PairPoll x) f a = announces-less w (pair_happens n r w (PairPoll x)) refl refl (λ z. fresh-after_happening w.desk.phase x z) (omega arith) (omega arith) a
-announces-step n r w PairDeliverDown f a = announces-if (has_fault w.seat.fault) w _ a (down-announces n r w w.down refl f.owns a)
+    turn-announces (turn_asks w (oldest w.adapter.kept)) r w ok (unless_sets_variable (sets_variable (oldest w.adapter.kept)) more) (unless_sets_variable (sets_variable (oldest w.adapter.kept)) requests_named) refl a
+announces-step n r w (PairPoll x) f a = announces-less w (pair_happens n r w (PairPoll x)) refl refl (λ z. fresh-after_happening w.adapter.phase x z) (omega arith) (omega arith) a
+announces-step n r w PairDeliverDown f a = announces-if (has_fault w.client.fault) w _ a (down-announces n r w w.down refl f.owns a)
 
 announces-run : (n r : ℕ) (ss : List PairStep) (w : Pair) → Follows n r w → Announces w → Announces (pair_run n r ss w)
 announces-run n r [] w f a = a

@@ -106,7 +106,7 @@ quiet-cancels _ d a q = quiet-requests_named (asks (requests_named q d.kept)) a
 abbrev Quiet : Made → Type 0
 Quiet m = NoRequests m.outs
 
-quiet-keeps : (b : Bool) (d : AdapterModel) (a : Ask) → Quiet (if b then record { desk = record d { kept = d.kept ++ record { ask = a; parked = false } ∷ [] }; outs = [] } else record { desk = d; outs = Response a false ∷ [] })
+quiet-keeps : (b : Bool) (d : AdapterModel) (a : Ask) → Quiet (if b then record { adapter = record d { kept = d.kept ++ record { ask = a; parked = false } ∷ [] }; outs = [] } else record { adapter = d; outs = Response a false ∷ [] })
 quiet-keeps true d a = tt
 quiet-keeps false d a = (tt, tt)
 

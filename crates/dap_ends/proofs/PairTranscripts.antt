@@ -2,12 +2,11 @@
 use Rattle.std.proofs.Common.{◌≡◌, ℕ, ◌+◌, ◌<◌, ◌≤◌, List, [], ◌∷◌, ◌++◌, Bool, true, false, not, refl, sym, ap, ◌∙◌, subst, append_assoc, arith, length, Option, Some, None}
 use Rattle.std.specs.Prelude.{◌&&◌, if◌then◌else◌, nat_lt}
 use Rattle.std.specs.List.{list_any}
-use Rattle.std.specs.Set.{distinct_count}
 use Rattle.std.proofs.lemmas.List.{append-nil}
 use Rattle.dap_ends.specs.Messages.{Ask, Message, Request, Response, Event, one_if, count, has_seq, is_same, requests_in, request_of, NoRequests}
 use Rattle.dap_ends.specs.AdapterModel.{Made, oldest, would_start, after_asking_turn, ends_wait, adapter_model_turns, adapter_model_takes, adapter_model_polls, is_ended as has_left, asks, parked_of}
 use Rattle.dap_ends.specs.ClientModel.{ClientModel, ReferenceLimit, CommandMismatch, Unmatched, answered_phase, client_model_takes, may_send, requests_without}
-use Rattle.dap_ends.specs.References.{Ref, Note, Table, inspection_succeeds, all_in, references_carried, messages, same_ref, given_after, table_after, table_polled}
+use Rattle.dap_ends.specs.References.{Ref, Note, Table, inspection_succeeds, all_in, references_carried, messages, given_with, given_after, table_after, table_polled}
 use Rattle.dap_ends.specs.Transcript.{open_after, AnswersOpen, closed_next, closed_after, NothingAfter}
 use Rattle.dap_ends.specs.Pair.{NumberedNote, WrittenNote, Pair, PairStep, PairSend, PairAnswer, PairDeliverUp, PairTurn, PairPoll, PairDeliverDown, terminal_ask, is_terminal_ask, numbered_notes, notes_written_by, has_fault, request_with_seq, sets_variable, unless_sets_variable, with_fault, pair_after_sending, request_written, reply, replies, pair_answers, pair_after_adapter, pair_takes_up, pair_comes_up, launch_seq, turn_asks, terminal_after_turn, writes_terminal_ask, pair_asks_terminal, pair_after_turn, pair_eyes, pair_takes_down, pair_comes_down, pair_happens, pair_run, pair_start, in_client_dialogue, client_dialogue, adapter_dialogue, unless_client_response, without_client_responses}
 use Rattle.dap_ends.specs.PairLaws.{messages_in, AllNumbered}
@@ -97,18 +96,18 @@ own-append c (x ∷ xs) ys h k = (h.0, own-append (closed_after c (messages (cli
 pub record Wrote (w v : Pair) : Type 0 where
   pub more : List WrittenNote
   pub written : v.written ≡ w.written ++ more
-  pub numbered : AllNumbered w.seat.last w.used more
-  pub last : v.seat.last ≡ w.seat.last + by_client_in more
+  pub numbered : AllNumbered w.client.last w.used more
+  pub last : v.client.last ≡ w.client.last + by_client_in more
   pub used : v.used ≡ w.used + by_adapter_in more
   pub back : (xs : List Ask) → OpenAt w xs → AnswersOpen xs (adapter_dialogue more) × OpenAt v (open_after xs (adapter_dialogue more))
-  pub own : (c : Bool) → (closed_after c (messages (client_dialogue more)) ≡ true → has_left v.desk.phase ≡ true) → OwnOpen c more
+  pub own : (c : Bool) → (closed_after c (messages (client_dialogue more)) ≡ true → has_left v.adapter.phase ≡ true) → OwnOpen c more
 
 -- the adapter's requests are few
 pub open-few : (w : Pair) → Owns w → (p : Ask → Bool) → OpenCount w p ≤ 1
 open-few w g p = let h = g.place p in let k = own-few w g p in omega arith
 
 -- nothing
-wrote-nothing : (w v : Pair) → v.written ≡ w.written → v.seat.last ≡ w.seat.last → v.used ≡ w.used → ((p : Ask → Bool) → OpenCount w p ≡ OpenCount v p) → Wrote w v
+wrote-nothing : (w v : Pair) → v.written ≡ w.written → v.client.last ≡ w.client.last → v.used ≡ w.used → ((p : Ask → Bool) → OpenCount w p ≡ OpenCount v p) → Wrote w v
 wrote-nothing w v e l u o =
     record {
       more = [];
@@ -135,7 +134,7 @@ after_adapter-open w m refs t q p =
     sym (rw (messages_in-append w.down (numbered_notes w.used refs m.outs), requests_in-append (messages_in w.down) (messages_in (numbered_notes w.used refs m.outs)), requests_in-numbered w.used refs m.outs q, append-nil (requests_in (messages_in w.down))) refl)
 
 -- a call of the adapter
-wrote-after_adapter : (w v : Pair) (m : Made) (refs : List Ref) (t : Table) → NoRequests m.outs → v.written ≡ w.written → v.seat.last ≡ w.seat.last → v.used ≡ w.used → ((p : Ask → Bool) → OpenCount w p ≡ OpenCount v p) → Wrote w (pair_after_adapter v m refs t)
+wrote-after_adapter : (w v : Pair) (m : Made) (refs : List Ref) (t : Table) → NoRequests m.outs → v.written ≡ w.written → v.client.last ≡ w.client.last → v.used ≡ w.used → ((p : Ask → Bool) → OpenCount w p ≡ OpenCount v p) → Wrote w (pair_after_adapter v m refs t)
 wrote-after_adapter w v m refs t q e l u o =
     let ls = notes_written_by false (numbered_notes v.used refs m.outs) in
     let a = notes-client v.used refs m.outs in
@@ -143,7 +142,7 @@ wrote-after_adapter w v m refs t q e l u o =
     record {
       more = ls;
       written = ap (λ zs. zs ++ ls) e;
-      numbered = subst (λ (k : ℕ). AllNumbered w.seat.last k ls) u (notes-numbered w.seat.last v.used refs m.outs q);
+      numbered = subst (λ (k : ℕ). AllNumbered w.client.last k ls) u (notes-numbered w.client.last v.used refs m.outs q);
       last = l ∙ omega arith;
       used = omega arith;
       back = λ xs h. let n = adapter_dialogue-numbered v.used refs m.outs q in rw n (tt, λ p. h p ∙ o p ∙ after_adapter-open v m refs t q p);
@@ -164,7 +163,7 @@ wrote-after_sending w c i q wanted refs =
     }
 
 -- its response to a request of the adapter
-wrote-reply : (w v : Pair) (a : Ask) (ok : Bool) → v.written ≡ w.written → v.seat.last ≡ w.seat.last → v.used ≡ w.used → ((p : Ask → Bool) → OpenCount w p ≡ one_if (p a) + OpenCount v p) → ((p : Ask → Bool) → OpenCount w p ≤ 1) → Wrote w (replies v a ok)
+wrote-reply : (w v : Pair) (a : Ask) (ok : Bool) → v.written ≡ w.written → v.client.last ≡ w.client.last → v.used ≡ w.used → ((p : Ask → Bool) → OpenCount w p ≡ one_if (p a) + OpenCount v p) → ((p : Ask → Bool) → OpenCount w p ≤ 1) → Wrote w (replies v a ok)
 wrote-reply w v a ok e l u o f =
     record {
       more = record { by_client = true; numbered = reply v a ok } ∷ [];
@@ -184,7 +183,7 @@ wrote-reply w v a ok e l u o f =
     }
 
 -- the adapter's request
-wrote-asks : (w : Pair) (m : Made) → NoRequests m.outs → has_left m.desk.phase ≡ false → Owns w → Wrote w (writes_terminal_ask (pair_after_adapter w m [] w.table))
+wrote-asks : (w : Pair) (m : Made) → NoRequests m.outs → has_left m.adapter.phase ≡ false → Owns w → Wrote w (writes_terminal_ask (pair_after_adapter w m [] w.table))
 wrote-asks w m q d g =
     let v = pair_after_adapter w m [] w.table in
     let x = terminal_ask (v.used + 1) in
@@ -197,7 +196,7 @@ wrote-asks w m q d g =
     record {
       more = ls ++ l ∷ [];
       written = append_assoc w.written ls (l ∷ []);
-      numbered = numbered-append w.seat.last w.used ls (l ∷ []) (notes-numbered w.seat.last w.used [] m.outs q) (ap (λ j. j + 1) k, refl, tt);
+      numbered = numbered-append w.client.last w.used ls (l ∷ []) (notes-numbered w.client.last w.used [] m.outs q) (ap (λ j. j + 1) k, refl, tt);
       last = let y = client-append ls (l ∷ []) in omega arith;
       used = let y = adapter-append ls (l ∷ []) in omega arith;
       back =
@@ -236,28 +235,28 @@ wrote-answers w q (Some a) ok e g =
     (λ p. let t = taken-out p a w.incoming (kept-once w g (has_seq a.seq)) (with-kept q a w.incoming e) in omega arith) (open-few w g)
 
 wrote-takes_up : (n : ℕ) (w : Pair) (m : NumberedNote) (x : Message) (ms : List NumberedNote) (starts : Bool) → m.note.message ≡ x → w.up ≡ m ∷ ms → Owns w → Wrote w (pair_takes_up n (record w { up = ms }) x starts)
-wrote-takes_up n w m (Request a q) ms starts e u g = wrote-after_adapter w (record w { up = ms }) (adapter_model_takes n w.desk (Request a q)) [] w.table (quiet-takes n w.desk a q) refl refl refl (λ p. refl)
+wrote-takes_up n w m (Request a q) ms starts e u g = wrote-after_adapter w (record w { up = ms }) (adapter_model_takes n w.adapter (Request a q)) [] w.table (quiet-takes n w.adapter a q) refl refl refl (λ p. refl)
 wrote-takes_up n w m (Response a ok) ms starts e u g =
     let h = answers-next w m (Response a ok) ms e u g in
     rw (response-taken (record w { up = ms }) a ok starts h.0 h.1)
-    (wrote-after_adapter w (record w { up = ms; asked = requests_without a.seq w.asked }) (ends_wait w.desk.phase w.desk (ok && starts)) [] w.table (quiet-ends_wait w.desk.phase w.desk (ok && starts)) refl refl refl (λ p. refl))
+    (wrote-after_adapter w (record w { up = ms; asked = requests_without a.seq w.asked }) (ends_wait w.adapter.phase w.adapter (ok && starts)) [] w.table (quiet-ends_wait w.adapter.phase w.adapter (ok && starts)) refl refl refl (λ p. refl))
 wrote-takes_up n w m (Event k) ms starts e u g = wrote-nothing w (record w { up = ms }) refl refl refl (λ p. refl)
 
 wrote-up : (n : ℕ) (w : Pair) (up : List NumberedNote) (starts : Bool) → w.up ≡ up → Owns w → Wrote w (pair_comes_up n w up starts)
 wrote-up n w [] starts u g = wrote-same w
 wrote-up n w (m ∷ ms) starts u g = wrote-takes_up n w m m.note.message ms starts refl u g
 
-wrote-asking : (o : Option Ask) (w : Pair) → turn_asks w o ≡ true → Owns w → Wrote w (writes_terminal_ask (pair_after_adapter w (after_asking_turn o w.desk) [] w.table))
+wrote-asking : (o : Option Ask) (w : Pair) → turn_asks w o ≡ true → Owns w → Wrote w (writes_terminal_ask (pair_after_adapter w (after_asking_turn o w.adapter) [] w.table))
 wrote-asking None w e g = absurd (true-false (sym e))
 wrote-asking (Some a) w e g =
-    let s = and-left (would_start w.desk.phase a.command) (w.terminal && w.wants (launch_seq a.command a (asks (parked_of w.desk.kept)))) e in
-    wrote-asks w (after_asking_turn (Some a) w.desk) (quiet-asking_some w.desk a) (ap has_left (asks-phase w.desk.phase a.command w.desk a s)) g
+    let s = and-left (would_start w.adapter.phase a.command) (w.terminal && w.wants (launch_seq a.command a (asks (parked_of w.adapter.kept)))) e in
+    wrote-asks w (after_asking_turn (Some a) w.adapter) (quiet-asking_some w.adapter a) (ap has_left (asks-phase w.adapter.phase a.command w.adapter a s)) g
 
-wrote-turn : (b : Bool) (r : ℕ) (w : Pair) (ok : Bool) (more : List Bool) (named : List Ref) → turn_asks w (oldest w.desk.kept) ≡ b → Owns w → Wrote w (if b then pair_asks_terminal w else pair_after_turn r w ok more named)
-wrote-turn true r w ok more named e g = wrote-asking (oldest w.desk.kept) w e g
+wrote-turn : (b : Bool) (r : ℕ) (w : Pair) (ok : Bool) (more : List Bool) (named : List Ref) → turn_asks w (oldest w.adapter.kept) ≡ b → Owns w → Wrote w (if b then pair_asks_terminal w else pair_after_turn r w ok more named)
+wrote-turn true r w ok more named e g = wrote-asking (oldest w.adapter.kept) w e g
 wrote-turn false r w ok more named e g =
-    let o = inspection_succeeds r w.table more named (oldest w.desk.kept) ok in
-    wrote-after_adapter w (record w { terminal = terminal_after_turn w.desk.phase (oldest w.desk.kept) w.wants w.terminal }) (adapter_model_turns w.desk o) named (table_after (oldest w.desk.kept) w.desk.phase o w.table more) (quiet-turns w.desk o) refl refl refl (λ p. refl)
+    let o = inspection_succeeds r w.table more named (oldest w.adapter.kept) ok in
+    wrote-after_adapter w (record w { terminal = terminal_after_turn w.adapter.phase (oldest w.adapter.kept) w.wants w.terminal }) (adapter_model_turns w.adapter o) named (table_after (oldest w.adapter.kept) w.adapter.phase o w.table more) (quiet-turns w.adapter o) refl refl refl (λ p. refl)
 
 -- what comes down first
 down-open : (w : Pair) (m : NumberedNote) (x : Message) (ms : List NumberedNote) → m.note.message ≡ x → w.down ≡ m ∷ ms → (p : Ask → Bool) → OpenCount w p ≡ count p (request_of x ++ requests_in (messages_in ms)) + count p w.incoming
@@ -269,15 +268,15 @@ wrote-request true w m a q ms e u g =
 wrote-request false w m a q ms e u g =
     wrote-reply w (record w { down = ms }) a false refl refl refl (λ p. let h = down-open w m (Request a q) ms e u p in omega arith) (open-few w g)
 
-wrote-report : (b : Bool) (w : Pair) (m : NumberedNote) (x : Message) (ms : List NumberedNote) → m.note.message ≡ x → request_of x ≡ [] → w.down ≡ m ∷ ms → Wrote w (if b then with_fault (record w { down = ms }) ReferenceLimit else record w { down = ms; seat = client_model_takes w.seat x; given = given_after (pair_eyes w) x m.note.refs })
+wrote-report : (b : Bool) (w : Pair) (m : NumberedNote) (x : Message) (ms : List NumberedNote) → m.note.message ≡ x → request_of x ≡ [] → w.down ≡ m ∷ ms → Wrote w (if b then with_fault (record w { down = ms }) ReferenceLimit else record w { down = ms; client = client_model_takes w.client x; given = given_after (pair_eyes w) x m.note.refs })
 wrote-report true w m x ms e n u = wrote-nothing w _ refl refl refl (λ p. down-open w m x ms e u p ∙ rw n refl)
-wrote-report false w m x ms e n u = wrote-nothing w _ refl (takes-last w.seat x) refl (λ p. down-open w m x ms e u p ∙ rw n refl)
+wrote-report false w m x ms e n u = wrote-nothing w _ refl (takes-last w.client x) refl (λ p. down-open w m x ms e u p ∙ rw n refl)
 
 wrote-takes_down : (n r : ℕ) (w : Pair) (m : NumberedNote) (x : Message) (ms : List NumberedNote) → m.note.message ≡ x → w.down ≡ m ∷ ms → Owns w → Wrote w (pair_takes_down n r (record w { down = ms }) x m.note.refs)
 wrote-takes_down n r w m (Request a q) ms e u g =
     rw (request-taken n (record w { down = ms }) a (new-next w m (Request a q) ms e u g)) (wrote-request (is_terminal_ask a && (w.announced && nat_lt (length w.incoming) n)) w m a q ms e u g)
-wrote-takes_down n r w m (Response a ok) ms e u g = wrote-report (nat_lt r (distinct_count same_ref (given_after (pair_eyes w) (Response a ok) m.note.refs))) w m (Response a ok) ms e refl u
-wrote-takes_down n r w m (Event k) ms e u g = wrote-report (nat_lt r (distinct_count same_ref (given_after (pair_eyes w) (Event k) m.note.refs))) w m (Event k) ms e refl u
+wrote-takes_down n r w m (Response a ok) ms e u g = wrote-report (nat_lt r (length (given_with (pair_eyes w) (Response a ok) m.note.refs))) w m (Response a ok) ms e refl u
+wrote-takes_down n r w m (Event k) ms e u g = wrote-report (nat_lt r (length (given_with (pair_eyes w) (Event k) m.note.refs))) w m (Event k) ms e refl u
 
 wrote-down : (n r : ℕ) (w : Pair) (down : List NumberedNote) → w.down ≡ down → Owns w → Wrote w (pair_comes_down n r w down)
 wrote-down n r w [] u g = wrote-same w
@@ -286,19 +285,19 @@ wrote-down n r w (m ∷ ms) u g = wrote-takes_down n r w m m.note.message ms ref
 -- each step
 pub wrote-step : (n r : ℕ) (w : Pair) (x : PairStep) → Owns w → Wrote w (pair_happens n r w x)
 wrote-step n r w (PairSend c i q wanted refs) g =
-    wrote-if (has_fault w.seat.fault) w w _ (wrote-same w) (wrote-if (all_in w.given (references_carried c refs) && may_send n w.seat c) w _ w (wrote-after_sending w c i q wanted (references_carried c refs)) (wrote-same w))
-wrote-step n r w (PairAnswer q ok) g = wrote-if (has_fault w.seat.fault) w w _ (wrote-same w) (wrote-answers w q (request_with_seq q w.incoming) ok refl g)
+    wrote-if (has_fault w.client.fault) w w _ (wrote-same w) (wrote-if (all_in w.given (references_carried c refs) && may_send n w.client c) w _ w (wrote-after_sending w c i q wanted (references_carried c refs)) (wrote-same w))
+wrote-step n r w (PairAnswer q ok) g = wrote-if (has_fault w.client.fault) w w _ (wrote-same w) (wrote-answers w q (request_with_seq q w.incoming) ok refl g)
 wrote-step n r w (PairDeliverUp starts) g = wrote-up n w w.up starts refl g
 wrote-step n r w (PairTurn ok more named) g =
-    wrote-turn (turn_asks w (oldest w.desk.kept)) r w ok (unless_sets_variable (sets_variable (oldest w.desk.kept)) more) (unless_sets_variable (sets_variable (oldest w.desk.kept)) named) refl g
-wrote-step n r w (PairPoll x) g = wrote-after_adapter w w (adapter_model_polls w.desk x) [] (table_polled w.desk.phase x w.table) (quiet-polls w.desk x) refl refl refl (λ p. refl)
-wrote-step n r w PairDeliverDown g = wrote-if (has_fault w.seat.fault) w w _ (wrote-same w) (wrote-down n r w w.down refl g)
+    wrote-turn (turn_asks w (oldest w.adapter.kept)) r w ok (unless_sets_variable (sets_variable (oldest w.adapter.kept)) more) (unless_sets_variable (sets_variable (oldest w.adapter.kept)) named) refl g
+wrote-step n r w (PairPoll x) g = wrote-after_adapter w w (adapter_model_polls w.adapter x) [] (table_polled w.adapter.phase x w.table) (quiet-polls w.adapter x) refl refl refl (λ p. refl)
+wrote-step n r w PairDeliverDown g = wrote-if (has_fault w.client.fault) w w _ (wrote-same w) (wrote-down n r w w.down refl g)
 
 -- the rules so far
 pub record Writes (n r : ℕ) (w : Pair) : Type 0 where
   pub follows : Follows n r w
   pub numbered : AllNumbered 0 0 w.written
-  pub client : by_client_in w.written ≡ w.seat.last
+  pub client : by_client_in w.written ≡ w.client.last
   pub adapter : by_adapter_in w.written ≡ w.used
   pub unanswered : OpenAt w (open_after [] (adapter_dialogue w.written))
   pub answers : AnswersOpen [] (adapter_dialogue w.written)
@@ -317,7 +316,7 @@ writes-step n r w x g =
     let told : messages (client_dialogue v.written) ≡ messages (client_dialogue w.written) ++ messages (client_dialogue h.more) = ap (λ (zs : List WrittenNote). messages (client_dialogue zs)) e ∙ ap messages (client_dialogue-append w.written h.more) ∙ messages-append (client_dialogue w.written) (client_dialogue h.more) in
     record {
       follows = f;
-      numbered = subst (λ (zs : List WrittenNote). AllNumbered 0 0 zs) (sym e) (numbered-append 0 0 w.written h.more g.numbered (subst (λ (k : ℕ). AllNumbered k (0 + by_adapter_in w.written) h.more) (sym g.client ∙ zero-plus (by_client_in w.written)) (subst (λ (k : ℕ). AllNumbered w.seat.last k h.more) (sym g.adapter ∙ zero-plus (by_adapter_in w.written)) h.numbered)));
+      numbered = subst (λ (zs : List WrittenNote). AllNumbered 0 0 zs) (sym e) (numbered-append 0 0 w.written h.more g.numbered (subst (λ (k : ℕ). AllNumbered k (0 + by_adapter_in w.written) h.more) (sym g.client ∙ zero-plus (by_client_in w.written)) (subst (λ (k : ℕ). AllNumbered w.client.last k h.more) (sym g.adapter ∙ zero-plus (by_adapter_in w.written)) h.numbered)));
       client = let y = ap by_client_in e in let z = client-append w.written h.more in let k = g.client in let l = h.last in omega arith;
       adapter = let y = ap by_adapter_in e in let z = adapter-append w.written h.more in let k = g.adapter in let l = h.used in omega arith;
       unanswered = subst (λ (zs : List Message). OpenAt v (open_after [] zs)) (sym backs) (subst (λ (zs : List Ask). OpenAt v zs) (sym (open-append [] (adapter_dialogue w.written) (adapter_dialogue h.more))) b.1);

@@ -55,17 +55,17 @@ still-unless true n r ss u h = tt
 still-unless false n r ss u h = h
 
 still-echo : (n r : ℕ) (w : Pair) (x : PairStep) → PairStepIsStill w x → IsStill n r (echo n r w x) (client_world w)
-still-echo n r w (PairSend c i q wanted refs) h = still-unless (has_fault w.seat.fault) n r (RefSend c i q refs ∷ []) (client_world w) (tt, tt)
-still-echo n r w (PairAnswer q ok) h = still-unless (has_fault w.seat.fault) n r (echo_answer (request_with_seq q w.incoming)) (client_world w) (still-answer (request_with_seq q w.incoming) n r (client_world w))
+still-echo n r w (PairSend c i q wanted refs) h = still-unless (has_fault w.client.fault) n r (RefSend c i q refs ∷ []) (client_world w) (tt, tt)
+still-echo n r w (PairAnswer q ok) h = still-unless (has_fault w.client.fault) n r (echo_answer (request_with_seq q w.incoming)) (client_world w) (still-answer (request_with_seq q w.incoming) n r (client_world w))
 still-echo n r w (PairDeliverUp starts) h = still-up n r w.up starts (client_world w)
-still-echo n r w (PairTurn ok more named) h = still-turn (turn_asks w (oldest w.desk.kept)) (sets_variable (oldest w.desk.kept)) ok n r more named (client_world w)
+still-echo n r w (PairTurn ok more named) h = still-turn (turn_asks w (oldest w.adapter.kept)) (sets_variable (oldest w.adapter.kept)) ok n r more named (client_world w)
 still-echo n r w (PairPoll x) h = (h, tt)
-still-echo n r w PairDeliverDown h = still-unless (has_fault w.seat.fault) n r (echo_down n w w.down) (client_world w) (still-down n r w w.down (client_world w))
+still-echo n r w PairDeliverDown h = still-unless (has_fault w.client.fault) n r (echo_down n w w.down) (client_world w) (still-down n r w w.down (client_world w))
 
 -- each step
 pub keeps-references-step : (n r : ℕ) (w : Pair) (x : PairStep) → PairStepIsStill w x → KeepsReferences n r w → KeepsReferences n r (pair_happens n r w x)
 keeps-references-step n r w x c g =
-    let e : has_fault w.seat.fault ≡ false = ap has_fault g.refs.agree.seat_fine in
+    let e : has_fault w.client.fault ≡ false = ap has_fault g.refs.agree.client_fine in
     let b = pair-client_world n r w x e (next-answers w g.owns) (next-new w g.owns) in
     record {
       refs = subst (λ (u : RefWorld). RefsAgree n r u) (sym b) (run-keeps n r (echo n r w x) (client_world w) (still-echo n r w x c) g.refs);

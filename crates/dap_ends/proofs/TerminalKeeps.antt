@@ -1,8 +1,8 @@
 -- A turn that asks for a terminal, the answer to that, and a number used by the client keep what holds.
 use Rattle.std.proofs.Common.{◌≡◌, ℕ, List, [], ◌∷◌, ◌++◌, Bool, true, false, refl, sym, ap, ◌∙◌, subst, arith, length, inr, Option, Some, None}
 use Rattle.dap_ends.specs.Messages.{Command, Launch, ConfigurationDone, Ask, Response, one_if, code, count, requests_in, answer_each}
-use Rattle.dap_ends.specs.AdapterModel.{Made, asks, oldest, but_oldest, park_oldest, parked_of, unparked_of, phase_after_start, is_parked_phase, asks_terminal_as, after_asking_turn, ends_wait, AdapterPhase, AdapterFresh, AdapterReady, AdapterConfigured, AdapterParked, AdapterAsked, AdapterRunning, AdapterStopped, AdapterExited, AdapterEnded}
-use Rattle.dap_ends.specs.ClientModel.{Phase, Fresh, Initializing, Configuring, Running, Stopped, Resuming, Exited, Ended}
+use Rattle.dap_ends.specs.AdapterModel.{Made, asks, oldest, but_oldest, park_oldest, parked_of, unparked_of, phase_after_start, is_parked_phase, asks_terminal_as, after_asking_turn, ends_wait, AdapterPhase, AdapterConfigured, AdapterParked, AdapterAsked, AdapterStopped}
+use Rattle.dap_ends.specs.ClientModel.{Phase, Configuring, Ended}
 use Rattle.dap_ends.specs.World.{Agree}
 use Rattle.dap_ends.specs.References.{Ref, Table, Eyes, RefWorld, eyes, plain_world, notes, ref_made, ref_happens, is_inspect, RefAskTerminal, RefEndWait, RefUseNumber}
 use Rattle.dap_ends.specs.Standing.{future, queue, Matches, AllLive, RefsAgree}
@@ -32,55 +32,55 @@ asked-match Ended m = tt
 asked-match _ m = absurd (let z = m in cc)
 
 -- nothing that waits names a reference outside a stop
-named-none : (n r : ℕ) (w : RefWorld) (p : AdapterPhase) (xs : List Ask) → (w.desk.phase ≡ AdapterStopped → ⊥) → AllLive w.desk.phase w.table w.uses xs → AllLive p w.table w.uses xs
-named-none n r w p xs e h = none-live p w.table w.uses xs (live-none w.desk.phase w.table w.uses xs e h)
+named-none : (n r : ℕ) (w : RefWorld) (p : AdapterPhase) (xs : List Ask) → (w.adapter.phase ≡ AdapterStopped → ⊥) → AllLive w.adapter.phase w.table w.uses xs → AllLive p w.table w.uses xs
+named-none n r w p xs e h = none-live p w.table w.uses xs (live-none w.adapter.phase w.table w.uses xs e h)
 
 -- what asking does
 abbrev AsksLaw : ℕ → ℕ → RefWorld → Made → Type 0
 AsksLaw n r w m = Agree n (plain_world (ref_made w m [] w.table)) → RefsAgree n r (ref_made w m [] w.table)
 
-nothing-keeps : (n r : ℕ) (w : RefWorld) → RefsAgree n r w → AsksLaw n r w (record { desk = w.desk; outs = [] })
-nothing-keeps n r w g a = keeps-all n r w w.up (record { desk = w.desk; outs = [] }) [] w.table g a g.room g.launches (quiet-next r w.table (future (eyes w) w.down) w.desk.phase (queue w) (standing n r w g)) g.uses
+nothing-keeps : (n r : ℕ) (w : RefWorld) → RefsAgree n r w → AsksLaw n r w (record { adapter = w.adapter; outs = [] })
+nothing-keeps n r w g a = keeps-all n r w w.up (record { adapter = w.adapter; outs = [] }) [] w.table g a g.room g.launches (quiet-next r w.table (future (eyes w) w.down) w.adapter.phase (queue w) (standing n r w g)) g.uses
 
 -- a launch is parked and asks
-launch-keeps : (n r : ℕ) (w : RefWorld) (a : Ask) → w.desk.phase ≡ AdapterConfigured → a.command ≡ Launch → oldest w.desk.kept ≡ Some a → RefsAgree n r w → AsksLaw n r w (record { desk = record w.desk { kept = park_oldest w.desk.kept; phase = AdapterAsked }; outs = [] })
+launch-keeps : (n r : ℕ) (w : RefWorld) (a : Ask) → w.adapter.phase ≡ AdapterConfigured → a.command ≡ Launch → oldest w.adapter.kept ≡ Some a → RefsAgree n r w → AsksLaw n r w (record { adapter = record w.adapter { kept = park_oldest w.adapter.kept; phase = AdapterAsked }; outs = [] })
 launch-keeps n r w a p c o g z =
-    let rest = asks (unparked_of (but_oldest w.desk.kept)) ++ requests_in w.up in
-    let q : queue w ≡ a ∷ rest = ap (λ xs. xs ++ requests_in w.up) (oldest-first w.desk.kept a o) in
-    let m : Made = record { desk = record w.desk { kept = park_oldest w.desk.kept; phase = AdapterAsked }; outs = [] } in
-    let same : asks (unparked_of (park_oldest w.desk.kept)) ++ requests_in w.up ≡ rest = rw (park-but w.desk.kept) refl in
+    let rest = asks (unparked_of (but_oldest w.adapter.kept)) ++ requests_in w.up in
+    let q : queue w ≡ a ∷ rest = ap (λ xs. xs ++ requests_in w.up) (oldest-first w.adapter.kept a o) in
+    let m : Made = record { adapter = record w.adapter { kept = park_oldest w.adapter.kept; phase = AdapterAsked }; outs = [] } in
+    let same : asks (unparked_of (park_oldest w.adapter.kept)) ++ requests_in w.up ≡ rest = rw (park-but w.adapter.kept) refl in
     let v = future (eyes w) w.down in
     let face : Facing r w.table v AdapterConfigured a rest = subst (λ (x : AdapterPhase). Facing r w.table v x a rest) p (facing n r w a g o) in
-    keeps-all n r w w.up m [] w.table g z g.room (launch-parks w.desk.kept a (ap code c) o g.launches)
+    keeps-all n r w w.up m [] w.table g z g.room (launch-parks w.adapter.kept a (ap code c) o g.launches)
     (subst (λ (xs : List Ask). Next r w.table v AdapterAsked xs []) (sym same) (asked-next r w.table v.phase v.resumer v.given a rest face))
-    (subst (λ (xs : List Ask). AllLive AdapterAsked w.table w.uses xs) (sym same) (named-none n r w AdapterAsked rest (λ e. let y : AdapterConfigured ≡ AdapterStopped = sym p ∙ e in cc) (subst (λ (xs : List Ask). AllLive w.desk.phase w.table w.uses xs) q g.uses).2))
+    (subst (λ (xs : List Ask). AllLive AdapterAsked w.table w.uses xs) (sym same) (named-none n r w AdapterAsked rest (λ e. let y : AdapterConfigured ≡ AdapterStopped = sym p ∙ e in cc) (subst (λ (xs : List Ask). AllLive w.adapter.phase w.table w.uses xs) q g.uses).2))
 
 -- configurationDone is answered and the parked launch asks
-done-keeps : (n r : ℕ) (w : RefWorld) (a : Ask) → w.desk.phase ≡ AdapterParked → a.command ≡ ConfigurationDone → oldest w.desk.kept ≡ Some a → RefsAgree n r w → AsksLaw n r w (record { desk = record w.desk { kept = but_oldest w.desk.kept; phase = AdapterAsked }; outs = Response a true ∷ [] })
+done-keeps : (n r : ℕ) (w : RefWorld) (a : Ask) → w.adapter.phase ≡ AdapterParked → a.command ≡ ConfigurationDone → oldest w.adapter.kept ≡ Some a → RefsAgree n r w → AsksLaw n r w (record { adapter = record w.adapter { kept = but_oldest w.adapter.kept; phase = AdapterAsked }; outs = Response a true ∷ [] })
 done-keeps n r w a p c o g z =
-    let rest = asks (unparked_of (but_oldest w.desk.kept)) ++ requests_in w.up in
-    let q : queue w ≡ a ∷ rest = ap (λ xs. xs ++ requests_in w.up) (oldest-first w.desk.kept a o) in
-    let m : Made = record { desk = record w.desk { kept = but_oldest w.desk.kept; phase = AdapterAsked }; outs = Response a true ∷ [] } in
+    let rest = asks (unparked_of (but_oldest w.adapter.kept)) ++ requests_in w.up in
+    let q : queue w ≡ a ∷ rest = ap (λ xs. xs ++ requests_in w.up) (oldest-first w.adapter.kept a o) in
+    let m : Made = record { adapter = record w.adapter { kept = but_oldest w.adapter.kept; phase = AdapterAsked }; outs = Response a true ∷ [] } in
     let v = future (eyes w) w.down in
     let face : Facing r w.table v AdapterParked a rest = subst (λ (x : AdapterPhase). Facing r w.table v x a rest) p (facing n r w a g o) in
-    keeps-all n r w w.up m [] w.table g z g.room (rw (but-parked w.desk.kept) g.launches)
+    keeps-all n r w w.up m [] w.table g z g.room (rw (but-parked w.adapter.kept) g.launches)
     (served r w.table v [] AdapterParked AdapterAsked a true rest face (asked-match v.phase face.match) (rw c refl) (rw c refl) (rw c refl) (rw c refl) (rw c refl))
-    (named-none n r w AdapterAsked rest (λ e. let y : AdapterParked ≡ AdapterStopped = sym p ∙ e in cc) (subst (λ (xs : List Ask). AllLive w.desk.phase w.table w.uses xs) q g.uses).2)
+    (named-none n r w AdapterAsked rest (λ e. let y : AdapterParked ≡ AdapterStopped = sym p ∙ e in cc) (subst (λ (xs : List Ask). AllLive w.adapter.phase w.table w.uses xs) q g.uses).2)
 
-asks_terminal_as-keeps : (p : AdapterPhase) (c : Command) (n r : ℕ) (w : RefWorld) (a : Ask) → w.desk.phase ≡ p → a.command ≡ c → oldest w.desk.kept ≡ Some a → RefsAgree n r w → AsksLaw n r w (asks_terminal_as p c w.desk a)
+asks_terminal_as-keeps : (p : AdapterPhase) (c : Command) (n r : ℕ) (w : RefWorld) (a : Ask) → w.adapter.phase ≡ p → a.command ≡ c → oldest w.adapter.kept ≡ Some a → RefsAgree n r w → AsksLaw n r w (asks_terminal_as p c w.adapter a)
 asks_terminal_as-keeps AdapterConfigured Launch n r w a e c o g = launch-keeps n r w a e c o g
 asks_terminal_as-keeps AdapterParked ConfigurationDone n r w a e c o g = done-keeps n r w a e c o g
 asks_terminal_as-keeps AdapterConfigured _ n r w a e c o g = nothing-keeps n r w g
 asks_terminal_as-keeps AdapterParked _ n r w a e c o g = nothing-keeps n r w g
 asks_terminal_as-keeps _ x n r w a e c o g = nothing-keeps n r w g
 
-after_asking_turn-keeps : (o : Option Ask) (n r : ℕ) (w : RefWorld) → oldest w.desk.kept ≡ o → RefsAgree n r w → AsksLaw n r w (after_asking_turn o w.desk)
+after_asking_turn-keeps : (o : Option Ask) (n r : ℕ) (w : RefWorld) → oldest w.adapter.kept ≡ o → RefsAgree n r w → AsksLaw n r w (after_asking_turn o w.adapter)
 after_asking_turn-keeps None n r w o g = nothing-keeps n r w g
-after_asking_turn-keeps (Some a) n r w o g = asks_terminal_as-keeps w.desk.phase a.command n r w a refl refl o g
+after_asking_turn-keeps (Some a) n r w o g = asks_terminal_as-keeps w.adapter.phase a.command n r w a refl refl o g
 
 -- a turn that asks
-pub asks-keeps : (n r : ℕ) (w : RefWorld) → RefsAgree n r w → RefsAgree n r (ref_made w (after_asking_turn (oldest w.desk.kept) w.desk) [] w.table)
-asks-keeps n r w g = after_asking_turn-keeps (oldest w.desk.kept) n r w refl g (agree-step n r w RefAskTerminal (limit-next n r w g) g.agree)
+pub asks-keeps : (n r : ℕ) (w : RefWorld) → RefsAgree n r w → RefsAgree n r (ref_made w (after_asking_turn (oldest w.adapter.kept) w.adapter) [] w.table)
+asks-keeps n r w g = after_asking_turn-keeps (oldest w.adapter.kept) n r w refl g (agree-step n r w RefAskTerminal (limit-next n r w g) g.agree)
 
 -- the launch `l` is answered
 ends_wait-next : (r : ℕ) (t : Table) (p : Phase) (q : ℕ) (g : List Ref) (l : Ask) (ok : Bool) (rest : List Ask) → Standing r t (at p q g) AdapterAsked rest → code l.command ≡ 1 → Next r t (at p q g) (phase_after_start ok) rest (answer l ok [] ∷ [])
@@ -97,10 +97,10 @@ ends_wait-next r t Ended q g l ok rest f c =
     record { w = at Ended q g; goes = ended-goes r (count is_inspect rest) q g [] (Response l ok ∷ []) (f.none refl) (tt, tt); match = tt; live = f.live; line = f.line }
 ends_wait-next r t _ q g l ok rest f c = absurd (let z = f.match in cc)
 
-ends_wait-cases : (p : AdapterPhase) (n r : ℕ) (w : RefWorld) (ok : Bool) → w.desk.phase ≡ p → RefsAgree n r w → AsksLaw n r w (ends_wait p w.desk ok)
+ends_wait-cases : (p : AdapterPhase) (n r : ℕ) (w : RefWorld) (ok : Bool) → w.adapter.phase ≡ p → RefsAgree n r w → AsksLaw n r w (ends_wait p w.adapter ok)
 ends_wait-cases AdapterAsked n r w ok e g = λ z.
-    let d = w.desk in
-    let m : Made = record { desk = record d { kept = unparked_of d.kept; phase = phase_after_start ok }; outs = answer_each ok (asks (parked_of d.kept)) } in
+    let d = w.adapter in
+    let m : Made = record { adapter = record d { kept = unparked_of d.kept; phase = phase_after_start ok }; outs = answer_each ok (asks (parked_of d.kept)) } in
     let v = future (eyes w) w.down in
     let one : length (parked_of d.kept) ≡ 1 = g.agree.parked ∙ ap (λ (p : AdapterPhase). one_if (is_parked_phase p)) e in
     let l = parked-one (parked_of d.kept) one g.launches in
@@ -113,8 +113,8 @@ ends_wait-cases AdapterAsked n r w ok e g = λ z.
 ends_wait-cases _ n r w ok e g = nothing-keeps n r w g
 
 -- the terminal is answered
-pub ends_wait-keeps : (n r : ℕ) (w : RefWorld) (ok : Bool) → RefsAgree n r w → RefsAgree n r (ref_made w (ends_wait w.desk.phase w.desk ok) [] w.table)
-ends_wait-keeps n r w ok g = ends_wait-cases w.desk.phase n r w ok refl g (agree-step n r w (RefEndWait ok) (limit-next n r w g) g.agree)
+pub ends_wait-keeps : (n r : ℕ) (w : RefWorld) (ok : Bool) → RefsAgree n r w → RefsAgree n r (ref_made w (ends_wait w.adapter.phase w.adapter ok) [] w.table)
+ends_wait-keeps n r w ok g = ends_wait-cases w.adapter.phase n r w ok refl g (agree-step n r w (RefEndWait ok) (limit-next n r w g) g.agree)
 
 -- the client uses a number
 pub number-keeps : (n r : ℕ) (w : RefWorld) → RefsAgree n r w → RefsAgree n r (ref_happens n r w RefUseNumber)
@@ -134,6 +134,8 @@ number-keeps n r w g =
       known = g.known;
       line = g.line;
       plainly = g.plainly;
+      resuming = g.resuming;
+      apart = g.apart;
       uses = g.uses;
       legal = g.legal;
     }

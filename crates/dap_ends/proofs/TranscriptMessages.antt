@@ -28,7 +28,7 @@ answers (Event k ∷ ms) xs rest n b o = let more = answers ms xs rest n.1 b o i
 -- what a call of the adapter writes, for the other rules
 pub record Settles (m : Made) : Type 0 where
   pub nothing : NothingAfter false m.outs
-  pub closed : closed_after false m.outs ≡ true → (is_ended m.desk.phase ≡ true) × (m.desk.kept ≡ [])
+  pub closed : closed_after false m.outs ≡ true → (is_ended m.adapter.phase ≡ true) × (m.adapter.kept ≡ [])
   pub begun : (b : Bool) → BegunFirst b m.outs
 
 -- the rule on the end, over two lists
@@ -115,7 +115,7 @@ launch-disconnects [] h = refl
 launch-disconnects (k ∷ ks) h = let z = launch-disconnects ks h.1 in rw (h.0, z) refl
 
 -- one response that is no disconnect's
-pub one-response : (ok : Bool) (a : Ask) (d : AdapterModel) → is_disconnect a ≡ false → Settles (record { desk = d; outs = Response a ok ∷ [] })
+pub one-response : (ok : Bool) (a : Ask) (d : AdapterModel) → is_disconnect a ≡ false → Settles (record { adapter = d; outs = Response a ok ∷ [] })
 one-response ok a d e =
     let z = closed-one ok a e in
     record { nothing = (refl, tt); closed = λ k. absurd (true-false (sym k ∙ z)); begun = λ b. (tt, tt) }
@@ -152,7 +152,7 @@ settles-handled Leaves d a ok e l =
     }
 
 -- a poll
-pub settles-poll : (p : AdapterPhase) (d : AdapterModel) (x : Happening) → Settles (record { desk = d; outs = events_of (events_after_happening p x) })
+pub settles-poll : (p : AdapterPhase) (d : AdapterModel) (x : Happening) → Settles (record { adapter = d; outs = events_of (events_after_happening p x) })
 settles-poll p d x =
     let h = events-nothing (events_after_happening p x) in
     record { nothing = h.0; closed = λ k. absurd (true-false (sym k ∙ h.1)); begun = λ b. polled p x b }

@@ -41,16 +41,16 @@ NoneBegun (m ∷ ms) = NotBegun m × NoneBegun ms
 -- the rules so far, and what they rest on
 pub record Tells (n : ℕ) (t : WorldWithTranscript) : Type 0 where
   pub agree : Agree n t.world
-  pub launches : AllLaunch (parked_of t.world.desk.kept)
-  pub unanswered : (p : Ask → Bool) → count p (open_after [] t.written) ≡ count p (requests_in t.world.up) + count p (asks t.world.desk.kept)
+  pub launches : AllLaunch (parked_of t.world.adapter.kept)
+  pub unanswered : (p : Ask → Bool) → count p (open_after [] t.written) ≡ count p (requests_in t.world.up) + count p (asks t.world.adapter.kept)
   pub answers : AnswersOpen [] t.written
-  pub begun : begun_after false t.written ≡ false → (is_before t.world.seat.phase ≡ true) × NoneBegun t.world.down
+  pub begun : begun_after false t.written ≡ false → (is_before t.world.client.phase ≡ true) × NoneBegun t.world.down
   pub first : BegunFirst false t.written
-  pub closed : closed_after false t.written ≡ true → (has_left t.world.desk.phase ≡ true) × (t.world.desk.kept ≡ [])
+  pub closed : closed_after false t.written ≡ true → (has_left t.world.adapter.phase ≡ true) × (t.world.adapter.kept ≡ [])
   pub nothing : NothingAfter false t.written
-  pub sent : sent_after 0 t.written ≤ t.world.seat.last
-  pub fresh : sent_after 0 t.written ≡ 0 → t.world.seat.phase ≡ Fresh
-  pub heard : heard_after false t.written ≡ false → (count (λ a. true) (answered_in t.world.down) ≡ 0) × (((t.world.seat.phase ≡ Fresh) × (sent_after 0 t.written ≡ 0)) ⊎ ((t.world.seat.phase ≡ Initializing) × (sent_after 0 t.written ≡ 1)))
+  pub sent : sent_after 0 t.written ≤ t.world.client.last
+  pub fresh : sent_after 0 t.written ≡ 0 → t.world.client.phase ≡ Fresh
+  pub heard : heard_after false t.written ≡ false → (count (λ a. true) (answered_in t.world.down) ≡ 0) × (((t.world.client.phase ≡ Fresh) × (sent_after 0 t.written ≡ 0)) ⊎ ((t.world.client.phase ≡ Initializing) × (sent_after 0 t.written ≡ 1)))
   pub order : AllInOrder 0 false t.written
 
 -- unanswered after two lists
@@ -127,14 +127,14 @@ by-flag true h k = h refl
 by-flag false h k = k refl
 
 -- the adapter does something
-told-after_adapter : (n : ℕ) (t : WorldWithTranscript) (came : List Ask) (up : List Message) (m : Made) → Tells n t → Agree n (after_adapter (record t.world { up = up }) m) → Steady t.world.desk came m → ((p : Ask → Bool) → count p (requests_in t.world.up) ≡ count p came + count p (requests_in up)) → Settles m → AllLaunch (parked_of m.desk.kept) → (closed_after false t.written ≡ true → (m.outs ≡ []) × (has_left m.desk.phase ≡ true) × (m.desk.kept ≡ [])) → Tells n (record { world = after_adapter (record t.world { up = up }) m; written = t.written ++ m.outs })
+told-after_adapter : (n : ℕ) (t : WorldWithTranscript) (came : List Ask) (up : List Message) (m : Made) → Tells n t → Agree n (after_adapter (record t.world { up = up }) m) → Steady t.world.adapter came m → ((p : Ask → Bool) → count p (requests_in t.world.up) ≡ count p came + count p (requests_in up)) → Settles m → AllLaunch (parked_of m.adapter.kept) → (closed_after false t.written ≡ true → (m.outs ≡ []) × (has_left m.adapter.phase ≡ true) × (m.adapter.kept ≡ [])) → Tells n (record { world = after_adapter (record t.world { up = up }) m; written = t.written ++ m.outs })
 told-after_adapter n t came up m g a s u e l c =
     let w = t.world in
     let ms = t.written in
     let ns = m.outs in
     let b = closed_after false ms in
     let same : sent_after 0 (ms ++ ns) ≡ sent_after 0 ms = sent-append 0 ms ns ∙ sent-same (sent_after 0 ms) ns s.down in
-    let told = answers ns (open_after [] ms) (λ p. count p (requests_in up) + count p (asks m.desk.kept)) s.down
+    let told = answers ns (open_after [] ms) (λ p. count p (requests_in up) + count p (asks m.adapter.kept)) s.down
     (λ p. let h = g.unanswered p in let k = s.balance p in let j = u p in omega arith)
     (λ q. let h = g.unanswered (has_seq q) in let k = g.agree.place (has_seq q) in let o = g.agree.once q in omega arith) in
     record {
@@ -163,32 +163,32 @@ told-after_adapter n t came up m g a s u e l c =
       order = order-append 0 false ms ns g.order (order-same (sent_after 0 ms) (heard_after false ms) ns s.down);
     }
 
-settles-none : (d : AdapterModel) → Settles (record { desk = d; outs = [] })
+settles-none : (d : AdapterModel) → Settles (record { adapter = d; outs = [] })
 settles-none d = record { nothing = tt; closed = λ k. absurd (true-false (sym k)); begun = λ b. tt }
 
-settles-failure : (a : Ask) (d : AdapterModel) → Settles (record { desk = d; outs = Response a false ∷ [] })
+settles-failure : (a : Ask) (d : AdapterModel) → Settles (record { adapter = d; outs = Response a false ∷ [] })
 settles-failure a d = record { nothing = (refl, tt); closed = λ k. absurd (true-false (sym k)); begun = λ b. (tt, tt) }
 
 -- a turn
-pub turn-settles : (o : Option Ask) (d : AdapterModel) (ok : Bool) → oldest d.kept ≡ o → AllLaunch (parked_of d.kept) → Settles (after_turn o d ok) × AllLaunch (parked_of (after_turn o d ok).desk.kept)
+pub turn-settles : (o : Option Ask) (d : AdapterModel) (ok : Bool) → oldest d.kept ≡ o → AllLaunch (parked_of d.kept) → Settles (after_turn o d ok) × AllLaunch (parked_of (after_turn o d ok).adapter.kept)
 turn-settles None d ok o l = (settles-none d, l)
 turn-settles (Some a) d ok o l =
     (settles-handled (answer_of d.phase a.command) d a ok refl l, launches-after (answer_of d.phase a.command) d a ok o (parks-code a.command d.phase) l)
 
 -- a turn with nothing kept
-pub quiet-turn : (d : AdapterModel) (ok : Bool) → d.kept ≡ [] → adapter_model_turns d ok ≡ record { desk = d; outs = [] }
+pub quiet-turn : (d : AdapterModel) (ok : Bool) → d.kept ≡ [] → adapter_model_turns d ok ≡ record { adapter = d; outs = [] }
 quiet-turn d ok e = ap (λ (ks : List Kept). after_turn (oldest ks) d ok) e
 
 -- a turn keeps the rules
 pub told-turn : (n : ℕ) (t : WorldWithTranscript) (ok : Bool) → Tells n t → Tells n (transcript_step n t (Turn ok))
 told-turn n t ok g =
-    let d = t.world.desk in
+    let d = t.world.adapter in
     let h = turn-settles (oldest d.kept) d ok refl g.launches in
-    told-after_adapter n t [] t.world.up (adapter_model_turns d ok) g (after-step n t.world (Turn ok) g.agree) (steady-turn d ok g.agree.desk_fine g.agree.parked) (λ p. omega arith) h.0 h.1
-    (λ c. let k = g.closed c in let e = quiet-turn d ok k.1 in (ap (λ (m : Made). m.outs) e, ap (λ (m : Made). has_left m.desk.phase) e ∙ k.0, ap (λ (m : Made). m.desk.kept) e ∙ k.1))
+    told-after_adapter n t [] t.world.up (adapter_model_turns d ok) g (after-step n t.world (Turn ok) g.agree) (steady-turn d ok g.agree.adapter_fine g.agree.parked) (λ p. omega arith) h.0 h.1
+    (λ c. let k = g.closed c in let e = quiet-turn d ok k.1 in (ap (λ (m : Made). m.outs) e, ap (λ (m : Made). has_left m.adapter.phase) e ∙ k.0, ap (λ (m : Made). m.adapter.kept) e ∙ k.1))
 
 -- a poll
-left-polls : (d : AdapterModel) (x : Happening) (p : AdapterPhase) → d.phase ≡ p → has_left p ≡ true → adapter_model_polls d x ≡ record { desk = d; outs = [] }
+left-polls : (d : AdapterModel) (x : Happening) (p : AdapterPhase) → d.phase ≡ p → has_left p ≡ true → adapter_model_polls d x ≡ record { adapter = d; outs = [] }
 left-polls d x AdapterEnded e h = rw e refl
 left-polls d x AdapterFresh e h = absurd (true-false (sym h))
 left-polls d x AdapterReady e h = absurd (true-false (sym h))
@@ -202,12 +202,12 @@ left-polls d x AdapterExited e h = absurd (true-false (sym h))
 -- a poll keeps them
 pub told-poll : (n : ℕ) (t : WorldWithTranscript) (x : Happening) → Tells n t → Tells n (transcript_step n t (Poll x))
 told-poll n t x g =
-    let d = t.world.desk in
-    told-after_adapter n t [] t.world.up (adapter_model_polls d x) g (after-step n t.world (Poll x) g.agree) (steady-poll d x g.agree.desk_fine g.agree.parked) (λ p. omega arith) (settles-poll d.phase (adapter_model_polls d x).desk x) g.launches
-    (λ c. let k = g.closed c in let e = left-polls d x d.phase refl k.0 in (ap (λ (m : Made). m.outs) e, ap (λ (m : Made). has_left m.desk.phase) e ∙ k.0, k.1))
+    let d = t.world.adapter in
+    told-after_adapter n t [] t.world.up (adapter_model_polls d x) g (after-step n t.world (Poll x) g.agree) (steady-poll d x g.agree.adapter_fine g.agree.parked) (λ p. omega arith) (settles-poll d.phase (adapter_model_polls d x).adapter x) g.launches
+    (λ c. let k = g.closed c in let e = left-polls d x d.phase refl k.0 in (ap (λ (m : Made). m.outs) e, ap (λ (m : Made). has_left m.adapter.phase) e ∙ k.0, k.1))
 
 -- a turn that asks for a terminal
-asks_terminal_as-settles : (p : AdapterPhase) (c : Command) (d : AdapterModel) (a : Ask) → a.command ≡ c → oldest d.kept ≡ Some a → AllLaunch (parked_of d.kept) → Settles (asks_terminal_as p c d a) × AllLaunch (parked_of (asks_terminal_as p c d a).desk.kept)
+asks_terminal_as-settles : (p : AdapterPhase) (c : Command) (d : AdapterModel) (a : Ask) → a.command ≡ c → oldest d.kept ≡ Some a → AllLaunch (parked_of d.kept) → Settles (asks_terminal_as p c d a) × AllLaunch (parked_of (asks_terminal_as p c d a).adapter.kept)
 asks_terminal_as-settles AdapterConfigured Launch d a e o l = (settles-none (record d { kept = park_oldest d.kept; phase = AdapterAsked }), launch-parks d.kept a (ap code e) o l)
 asks_terminal_as-settles AdapterParked ConfigurationDone d a e o l = (
   one-response true a (record d { kept = but_oldest d.kept; phase = AdapterAsked }) (ap (λ (c : Command). code c == 3) e),
@@ -217,24 +217,24 @@ asks_terminal_as-settles AdapterConfigured _ d a e o l = (settles-none d, l)
 asks_terminal_as-settles AdapterParked _ d a e o l = (settles-none d, l)
 asks_terminal_as-settles _ c d a e o l = (settles-none d, l)
 
-after_asking_turn-settles : (o : Option Ask) (d : AdapterModel) → oldest d.kept ≡ o → AllLaunch (parked_of d.kept) → Settles (after_asking_turn o d) × AllLaunch (parked_of (after_asking_turn o d).desk.kept)
+after_asking_turn-settles : (o : Option Ask) (d : AdapterModel) → oldest d.kept ≡ o → AllLaunch (parked_of d.kept) → Settles (after_asking_turn o d) × AllLaunch (parked_of (after_asking_turn o d).adapter.kept)
 after_asking_turn-settles None d o l = (settles-none d, l)
 after_asking_turn-settles (Some a) d o l = asks_terminal_as-settles d.phase a.command d a refl o l
 
 -- the same where it asks
-pub quiet-asks : (d : AdapterModel) → d.kept ≡ [] → after_asking_turn (oldest d.kept) d ≡ record { desk = d; outs = [] }
+pub quiet-asks : (d : AdapterModel) → d.kept ≡ [] → after_asking_turn (oldest d.kept) d ≡ record { adapter = d; outs = [] }
 quiet-asks d e = ap (λ (ks : List Kept). after_asking_turn (oldest ks) d) e
 
 -- it keeps the rules
 pub told-asks : (n : ℕ) (t : WorldWithTranscript) → Tells n t → Tells n (transcript_step n t AskTerminal)
 told-asks n t g =
-    let d = t.world.desk in
+    let d = t.world.adapter in
     let h = after_asking_turn-settles (oldest d.kept) d refl g.launches in
-    told-after_adapter n t [] t.world.up (after_asking_turn (oldest d.kept) d) g (after-step n t.world AskTerminal g.agree) (steady-asks d g.agree.desk_fine g.agree.parked) (λ p. omega arith) h.0 h.1
-    (λ c. let k = g.closed c in let e = quiet-asks d k.1 in (ap (λ (m : Made). m.outs) e, ap (λ (m : Made). has_left m.desk.phase) e ∙ k.0, ap (λ (m : Made). m.desk.kept) e ∙ k.1))
+    told-after_adapter n t [] t.world.up (after_asking_turn (oldest d.kept) d) g (after-step n t.world AskTerminal g.agree) (steady-asks d g.agree.adapter_fine g.agree.parked) (λ p. omega arith) h.0 h.1
+    (λ c. let k = g.closed c in let e = quiet-asks d k.1 in (ap (λ (m : Made). m.outs) e, ap (λ (m : Made). has_left m.adapter.phase) e ∙ k.0, ap (λ (m : Made). m.adapter.kept) e ∙ k.1))
 
 -- the terminal is answered
-ends_wait-settles : (p : AdapterPhase) (d : AdapterModel) (ok : Bool) → AllLaunch (parked_of d.kept) → Settles (ends_wait p d ok) × AllLaunch (parked_of (ends_wait p d ok).desk.kept)
+ends_wait-settles : (p : AdapterPhase) (d : AdapterModel) (ok : Bool) → AllLaunch (parked_of d.kept) → Settles (ends_wait p d ok) × AllLaunch (parked_of (ends_wait p d ok).adapter.kept)
 ends_wait-settles AdapterAsked d ok l =
     let h = each-nothing ok (asks (parked_of d.kept)) (λ y. launch-disconnects (parked_of d.kept) l) in (
       record { nothing = h.0; closed = λ k. absurd (true-false (sym k ∙ h.1)); begun = λ b. each-begun b ok (asks (parked_of d.kept)) },
@@ -242,23 +242,23 @@ ends_wait-settles AdapterAsked d ok l =
     )
 ends_wait-settles _ d ok l = (settles-none d, l)
 
-left-ends_wait : (d : AdapterModel) (ok : Bool) (p : AdapterPhase) → d.phase ≡ p → has_left p ≡ true → ends_wait d.phase d ok ≡ record { desk = d; outs = [] }
+left-ends_wait : (d : AdapterModel) (ok : Bool) (p : AdapterPhase) → d.phase ≡ p → has_left p ≡ true → ends_wait d.phase d ok ≡ record { adapter = d; outs = [] }
 left-ends_wait d ok AdapterEnded e h = rw e refl
 left-ends_wait d ok _ e h = absurd (true-false (sym h))
 
 -- it keeps the rules
 pub told-ends_wait : (n : ℕ) (t : WorldWithTranscript) (ok : Bool) → Tells n t → Tells n (transcript_step n t (EndWait ok))
 told-ends_wait n t ok g =
-    let d = t.world.desk in
+    let d = t.world.adapter in
     let h = ends_wait-settles d.phase d ok g.launches in
-    told-after_adapter n t [] t.world.up (ends_wait d.phase d ok) g (after-step n t.world (EndWait ok) g.agree) (steady-ends_wait d.phase d ok g.agree.desk_fine g.agree.parked) (λ p. omega arith) h.0 h.1
-    (λ c. let k = g.closed c in let e = left-ends_wait d ok d.phase refl k.0 in (ap (λ (m : Made). m.outs) e, ap (λ (m : Made). has_left m.desk.phase) e ∙ k.0, ap (λ (m : Made). m.desk.kept) e ∙ k.1))
+    told-after_adapter n t [] t.world.up (ends_wait d.phase d ok) g (after-step n t.world (EndWait ok) g.agree) (steady-ends_wait d.phase d ok g.agree.adapter_fine g.agree.parked) (λ p. omega arith) h.0 h.1
+    (λ c. let k = g.closed c in let e = left-ends_wait d ok d.phase refl k.0 in (ap (λ (m : Made). m.outs) e, ap (λ (m : Made). has_left m.adapter.phase) e ∙ k.0, ap (λ (m : Made). m.adapter.kept) e ∙ k.1))
 
 -- a request comes
 abbrev UpSettles : Made → Type 0
-UpSettles m = Settles m × AllLaunch (parked_of m.desk.kept)
+UpSettles m = Settles m × AllLaunch (parked_of m.adapter.kept)
 
-requests_named-settles : (d : AdapterModel) (a : Ask) (q : ℕ) → (code a.command == 5) ≡ true → AllLaunch (parked_of d.kept) → UpSettles (record { desk = record d { kept = requests_not_named q d.kept }; outs = answer_each false (asks (requests_named q d.kept)) ++ Response a true ∷ [] })
+requests_named-settles : (d : AdapterModel) (a : Ask) (q : ℕ) → (code a.command == 5) ≡ true → AllLaunch (parked_of d.kept) → UpSettles (record { adapter = record d { kept = requests_not_named q d.kept }; outs = answer_each false (asks (requests_named q d.kept)) ++ Response a true ∷ [] })
 requests_named-settles d a q e l =
     let xs = asks (requests_named q d.kept) in
     let h = each-nothing false xs (λ y. absurd (true-false (sym y))) in
@@ -275,7 +275,7 @@ cancel-settles : (p : AdapterPhase) (d : AdapterModel) (a : Ask) (q : ℕ) → (
 cancel-settles AdapterFresh d a q e l = (settles-failure a d, l)
 cancel-settles _ d a q e l = requests_named-settles d a q e l
 
-keep-settles : (b : Bool) (d : AdapterModel) (a : Ask) → AllLaunch (parked_of d.kept) → UpSettles (if b then record { desk = record d { kept = d.kept ++ record { ask = a; parked = false } ∷ [] }; outs = [] } else record { desk = d; outs = Response a false ∷ [] })
+keep-settles : (b : Bool) (d : AdapterModel) (a : Ask) → AllLaunch (parked_of d.kept) → UpSettles (if b then record { adapter = record d { kept = d.kept ++ record { ask = a; parked = false } ∷ [] }; outs = [] } else record { adapter = d; outs = Response a false ∷ [] })
 keep-settles true d a l = (
   settles-none (record d { kept = d.kept ++ record { ask = a; parked = false } ∷ [] }),
   rw (filter-append (λ (k : Kept). k.parked) d.kept (record { ask = a; parked = false } ∷ []), append-nil (parked_of d.kept)) l,
@@ -294,16 +294,16 @@ told-up n t (Event j ∷ ms) e g h = absurd (let k : AllRequests (Event j ∷ ms
 told-up n t (Request a q ∷ ms) e g h =
     let w = t.world in
     let full : requests_in w.up ≡ [] → ⊥ = λ z. let k : a ∷ requests_in ms ≡ [] = sym (ap requests_in e) ∙ z in cc in
-    let stands : has_left w.desk.phase ≡ false = not-true (has_left w.desk.phase) (λ l. full (g.agree.left l)) in
+    let stands : has_left w.adapter.phase ≡ false = not-true (has_left w.adapter.phase) (λ l. full (g.agree.left l)) in
     let place = g.agree.place (has_seq a.seq) in
     let once = g.agree.once a.seq in
     let ups : (p : Ask → Bool) → count p (requests_in w.up) ≡ count p (a ∷ []) + count p (requests_in ms) = λ p. ap (λ (xs : List Message). count p (requests_in xs)) e ∙ omega arith in
     let here = ups (has_seq a.seq) in
     let self = ap one_if (eqb-self a.seq) in
-    let new : list_any (has_seq a.seq) (asks w.desk.kept) ≡ false = none-counted (has_seq a.seq) (asks w.desk.kept) (omega arith) in
-    let same : takes_request n w.desk a q ≡ (if code a.command == 5 then cancels w.desk.phase w.desk a q else keeps n w.desk a) = rw (stands, new) refl in
-    let s : UpSettles (takes_request n w.desk a q) = subst UpSettles (sym same) (take-settles (code a.command == 5) n w.desk a q refl g.launches) in
-    told-after_adapter n t (a ∷ []) ms (takes_request n w.desk a q) g h (steady-take n w.desk a q stands new g.agree.desk_fine g.agree.parked) ups s.0 s.1
+    let new : list_any (has_seq a.seq) (asks w.adapter.kept) ≡ false = none-counted (has_seq a.seq) (asks w.adapter.kept) (omega arith) in
+    let same : takes_request n w.adapter a q ≡ (if code a.command == 5 then cancels w.adapter.phase w.adapter a q else keeps n w.adapter a) = rw (stands, new) refl in
+    let s : UpSettles (takes_request n w.adapter a q) = subst UpSettles (sym same) (take-settles (code a.command == 5) n w.adapter a q refl g.launches) in
+    told-after_adapter n t (a ∷ []) ms (takes_request n w.adapter a q) g h (steady-take n w.adapter a q stands new g.agree.adapter_fine g.agree.parked) ups s.0 s.1
     (λ c. absurd (true-false (sym (g.closed c).0 ∙ stands)))
 
 -- the client takes a message
@@ -325,7 +325,7 @@ event-before Initializing k h = refl
 event-before _ k h = absurd (true-false (sym h))
 
 -- what a message taken changes of the rules' ground
-told-takes : (n : ℕ) (t : WorldWithTranscript) (m : Message) (ms : List Message) (s : ClientModel) → t.world.down ≡ m ∷ ms → Tells n t → Agree n (record t.world { seat = s; down = ms }) → s.last ≡ t.world.seat.last → (is_before t.world.seat.phase ≡ true → NotBegun m → is_before s.phase ≡ true) → (t.world.seat.phase ≡ Fresh → s.phase ≡ Fresh) → (count (λ a. true) (answered_in (m ∷ ms)) ≡ 0 → (count (λ a. true) (answered_in ms) ≡ 0) × (is_before t.world.seat.phase ≡ true → s.phase ≡ t.world.seat.phase)) → Tells n (record { world = record t.world { seat = s; down = ms }; written = t.written })
+told-takes : (n : ℕ) (t : WorldWithTranscript) (m : Message) (ms : List Message) (s : ClientModel) → t.world.down ≡ m ∷ ms → Tells n t → Agree n (record t.world { client = s; down = ms }) → s.last ≡ t.world.client.last → (is_before t.world.client.phase ≡ true → NotBegun m → is_before s.phase ≡ true) → (t.world.client.phase ≡ Fresh → s.phase ≡ Fresh) → (count (λ a. true) (answered_in (m ∷ ms)) ≡ 0 → (count (λ a. true) (answered_in ms) ≡ 0) × (is_before t.world.client.phase ≡ true → s.phase ≡ t.world.client.phase)) → Tells n (record { world = record t.world { client = s; down = ms }; written = t.written })
 told-takes n t m ms s e g a l b f h =
     record {
       agree = a;
@@ -348,14 +348,14 @@ told-takes n t m ms s e g a l b f h =
     }
 
 -- a delivery down keeps them
-pub told-message : (n : ℕ) (t : WorldWithTranscript) (m : Message) (ms : List Message) → t.world.down ≡ m ∷ ms → Tells n t → Agree n (record t.world { seat = client_model_takes t.world.seat m; down = ms }) → Tells n (record { world = record t.world { seat = client_model_takes t.world.seat m; down = ms }; written = t.written })
+pub told-message : (n : ℕ) (t : WorldWithTranscript) (m : Message) (ms : List Message) → t.world.down ≡ m ∷ ms → Tells n t → Agree n (record t.world { client = client_model_takes t.world.client m; down = ms }) → Tells n (record { world = record t.world { client = client_model_takes t.world.client m; down = ms }; written = t.written })
 told-message n t (Request a q) ms e g h = absurd (let k : NoRequests (Request a q ∷ ms) = subst NoRequests e g.agree.down in k.0)
 told-message n t (Event k) ms e g h =
-    told-takes n t (Event k) ms (client_model_takes t.world.seat (Event k)) e g h refl (λ b z. ap is_before (event-before t.world.seat.phase k b) ∙ b) (λ z. rw z refl) (λ z. (z, λ b. event-before t.world.seat.phase k b))
+    told-takes n t (Event k) ms (client_model_takes t.world.client (Event k)) e g h refl (λ b z. ap is_before (event-before t.world.client.phase k b) ∙ b) (λ z. rw z refl) (λ z. (z, λ b. event-before t.world.client.phase k b))
 told-message n t (Response a ok) ms e g h =
-    let c = t.world.seat in
-    let s : takes_response c a ok ≡ answered c a ok = took (list_any (has_seq a.seq) c.asked) (list_any (is_same a) c.asked) c a ok h.seat_fine in
+    let c = t.world.client in
+    let s : takes_response c a ok ≡ answered c a ok = took (list_any (has_seq a.seq) c.asked) (list_any (is_same a) c.asked) c a ok h.client_fine in
     let good =
-    told-takes n t (Response a ok) ms (answered c a ok) e g (subst (λ (x : ClientModel). Agree n (record t.world { seat = x; down = ms })) s h) refl
+    told-takes n t (Response a ok) ms (answered c a ok) e g (subst (λ (x : ClientModel). Agree n (record t.world { client = x; down = ms })) s h) refl
     (λ b z. next-before c.phase c.resumer a ok z b) (λ z. rw z refl) (λ z. absurd (omega arith)) in
-    subst (λ (x : ClientModel). Tells n (record { world = record t.world { seat = x; down = ms }; written = t.written })) (sym s) good
+    subst (λ (x : ClientModel). Tells n (record { world = record t.world { client = x; down = ms }; written = t.written })) (sym s) good

@@ -16,11 +16,11 @@ pub data AdapterPhase : Type 0 where
   AdapterEnded : AdapterPhase
 
 -- what closes the adapter
-pub data DeskFault : Type 0 where
-  RepeatedSeq : DeskFault
-  UnmatchedResponse : DeskFault
-  MismatchedResponse : DeskFault
-  RequestAfterEnd : DeskFault
+pub data AdapterFault : Type 0 where
+  RepeatedSeq : AdapterFault
+  UnmatchedResponse : AdapterFault
+  MismatchedResponse : AdapterFault
+  RequestAfterEnd : AdapterFault
 
 -- a kept request, and whether it is parked
 pub record Kept : Type 0 where
@@ -31,11 +31,11 @@ pub record Kept : Type 0 where
 pub record AdapterModel : Type 0 where
   pub phase : AdapterPhase
   pub kept : List Kept
-  pub fault : Option DeskFault
+  pub fault : Option AdapterFault
 
 -- what a call leaves and writes
 pub record Made : Type 0 where
-  pub desk : AdapterModel
+  pub adapter : AdapterModel
   pub outs : List Message
 
 -- a fresh adapter
@@ -149,20 +149,20 @@ phase_after_start false = AdapterConfigured
 
 -- the oldest is this one, and is answered so; `ok` is what the debuggee (and the limits) let it be
 abbrev pub handled_as : Answer → AdapterModel → Ask → Bool → Made
-handled_as Fails d a ok = record { desk = record d { kept = but_oldest d.kept }; outs = Response a false ∷ [] }
+handled_as Fails d a ok = record { adapter = record d { kept = but_oldest d.kept }; outs = Response a false ∷ [] }
 handled_as Succeeds d a ok =
-    record { desk = record d { kept = but_oldest d.kept; phase = phase_after d.phase a.command true }; outs = Response a true ∷ events_of (events_after d.phase a.command) }
+    record { adapter = record d { kept = but_oldest d.kept; phase = phase_after d.phase a.command true }; outs = Response a true ∷ events_of (events_after d.phase a.command) }
 handled_as Tries d a ok =
-    record { desk = record d { kept = but_oldest d.kept; phase = phase_after d.phase a.command ok }; outs = Response a ok ∷ [] }
-handled_as Parks d a ok = record { desk = record d { kept = park_oldest d.kept; phase = AdapterParked }; outs = [] }
+    record { adapter = record d { kept = but_oldest d.kept; phase = phase_after d.phase a.command ok }; outs = Response a ok ∷ [] }
+handled_as Parks d a ok = record { adapter = record d { kept = park_oldest d.kept; phase = AdapterParked }; outs = [] }
 handled_as Starts_parked d a ok =
-    record { desk = record d { kept = unparked_of (but_oldest d.kept); phase = phase_after_start ok }; outs = Response a true ∷ answer_each ok (asks (parked_of (but_oldest d.kept))) }
+    record { adapter = record d { kept = unparked_of (but_oldest d.kept); phase = phase_after_start ok }; outs = Response a true ∷ answer_each ok (asks (parked_of (but_oldest d.kept))) }
 handled_as Leaves d a ok =
-    record { desk = record d { kept = []; phase = AdapterEnded }; outs = answer_each false (asks (but_oldest d.kept)) ++ Response a true ∷ [] }
+    record { adapter = record d { kept = []; phase = AdapterEnded }; outs = answer_each false (asks (but_oldest d.kept)) ++ Response a true ∷ [] }
 
 -- a turn, by the oldest that waits
 abbrev pub after_turn : Option Ask → AdapterModel → Bool → Made
-after_turn None d ok = record { desk = d; outs = [] }
+after_turn None d ok = record { adapter = d; outs = [] }
 after_turn (Some a) d ok = handled_as (answer_of d.phase a.command) d a ok
 
 -- a turn of an end without a fault
@@ -177,36 +177,36 @@ would_start _ _ = false
 
 -- a turn in which that launch asks for a terminal instead: it is parked, configurationDone is answered
 abbrev pub asks_terminal_as : AdapterPhase → Command → AdapterModel → Ask → Made
-asks_terminal_as AdapterConfigured Launch d a = record { desk = record d { kept = park_oldest d.kept; phase = AdapterAsked }; outs = [] }
-asks_terminal_as AdapterParked ConfigurationDone d a = record { desk = record d { kept = but_oldest d.kept; phase = AdapterAsked }; outs = Response a true ∷ [] }
-asks_terminal_as _ _ d a = record { desk = d; outs = [] }
+asks_terminal_as AdapterConfigured Launch d a = record { adapter = record d { kept = park_oldest d.kept; phase = AdapterAsked }; outs = [] }
+asks_terminal_as AdapterParked ConfigurationDone d a = record { adapter = record d { kept = but_oldest d.kept; phase = AdapterAsked }; outs = Response a true ∷ [] }
+asks_terminal_as _ _ d a = record { adapter = d; outs = [] }
 
 -- the same by the oldest that waits
 abbrev pub after_asking_turn : Option Ask → AdapterModel → Made
-after_asking_turn None d = record { desk = d; outs = [] }
+after_asking_turn None d = record { adapter = d; outs = [] }
 after_asking_turn (Some a) d = asks_terminal_as d.phase a.command d a
 
 -- the terminal is answered: the debuggee starts, or does not, and the parked launch is answered
 abbrev pub ends_wait : AdapterPhase → AdapterModel → Bool → Made
-ends_wait AdapterAsked d ok = record { desk = record d { kept = unparked_of d.kept; phase = phase_after_start ok }; outs = answer_each ok (asks (parked_of d.kept)) }
-ends_wait _ d ok = record { desk = d; outs = [] }
+ends_wait AdapterAsked d ok = record { adapter = record d { kept = unparked_of d.kept; phase = phase_after_start ok }; outs = answer_each ok (asks (parked_of d.kept)) }
+ends_wait _ d ok = record { adapter = d; outs = [] }
 
 -- how a request is taken
-abbrev pub fails_with : AdapterModel → DeskFault → Made
-fails_with d f = record { desk = record d { fault = Some f }; outs = [] }
+abbrev pub fails_with : AdapterModel → AdapterFault → Made
+fails_with d f = record { adapter = record d { fault = Some f }; outs = [] }
 
 -- a request that is kept, or finds n kept and is answered busy
 abbrev pub keeps : ℕ → AdapterModel → Ask → Made
 keeps n d a =
     if nat_lt (length d.kept) n
-    then record { desk = record d { kept = d.kept ++ record { ask = a; parked = false } ∷ [] }; outs = [] }
-    else record { desk = d; outs = Response a false ∷ [] }
+    then record { adapter = record d { kept = d.kept ++ record { ask = a; parked = false } ∷ [] }; outs = [] }
+    else record { adapter = d; outs = Response a false ∷ [] }
 
 -- a cancel is handled when it is taken: it fails in the first phase
 abbrev pub cancels : AdapterPhase → AdapterModel → Ask → ℕ → Made
-cancels AdapterFresh d a target = record { desk = d; outs = Response a false ∷ [] }
+cancels AdapterFresh d a target = record { adapter = d; outs = Response a false ∷ [] }
 cancels _ d a target =
-    record { desk = record d { kept = requests_not_named target d.kept }; outs = answer_each false (asks (requests_named target d.kept)) ++ Response a true ∷ [] }
+    record { adapter = record d { kept = requests_not_named target d.kept }; outs = answer_each false (asks (requests_named target d.kept)) ++ Response a true ∷ [] }
 
 -- a request: after the end, with a number that is kept, a cancel, any other
 abbrev pub takes_request : ℕ → AdapterModel → Ask → ℕ → Made
@@ -220,7 +220,7 @@ takes_request n d a target =
 abbrev pub adapter_model_takes : ℕ → AdapterModel → Message → Made
 adapter_model_takes n d (Request a target) = takes_request n d a target
 adapter_model_takes n d (Response a success) = fails_with d UnmatchedResponse
-adapter_model_takes n d (Event kind) = record { desk = d; outs = [] }
+adapter_model_takes n d (Event kind) = record { adapter = d; outs = [] }
 
 -- what a poll of the debuggee gives
 pub data Happening : Type 0 where
@@ -252,4 +252,4 @@ events_after_happening _ _ = []
 
 -- a poll
 abbrev pub adapter_model_polls : AdapterModel → Happening → Made
-adapter_model_polls d x = record { desk = record d { phase = phase_after_happening d.phase x }; outs = events_of (events_after_happening d.phase x) }
+adapter_model_polls d x = record { adapter = record d { phase = phase_after_happening d.phase x }; outs = events_of (events_after_happening d.phase x) }

@@ -1,7 +1,7 @@
 -- The client's end, reduced to phase, outstanding requests and fault.
 use Rattle.std.specs.Prelude.{ℕ, ◌+◌, ◌==◌, ◌&&◌, not, nat_lt, List, [], ◌∷◌, ◌++◌, length, filter, Bool, true, false, if◌then◌else◌, Option, Some, None}
 use Rattle.std.specs.List.{list_any}
-use Rattle.dap_ends.specs.Messages.{Command, Initialize, Launch, ConfigurationDone, Disconnect, Terminate, Cancel, Setter, Lookup, Resume, Pause, Inspect, Ask, Kind, InitializedEvent, StoppedEvent, ContinuedEvent, ExitedEvent, TerminatedEvent, Message, Request, Response, Event, has_seq, is_same, code}
+use Rattle.dap_ends.specs.Messages.{Command, Initialize, Launch, ConfigurationDone, Disconnect, Terminate, Restart, Cancel, Setter, Lookup, Resume, Pause, Inspect, Ask, Kind, InitializedEvent, StoppedEvent, ContinuedEvent, ExitedEvent, TerminatedEvent, Message, Request, Response, Event, has_seq, is_same, code}
 
 -- the client's phases
 pub data Phase : Type 0 where
@@ -15,12 +15,12 @@ pub data Phase : Type 0 where
   Ended : Phase
 
 -- what closes the client
-pub data SeatFault : Type 0 where
-  Unmatched : SeatFault
-  CommandMismatch : SeatFault
-  UnexpectedRequest : SeatFault
-  RepeatedRequest : SeatFault
-  ReferenceLimit : SeatFault
+pub data ClientFault : Type 0 where
+  Unmatched : ClientFault
+  CommandMismatch : ClientFault
+  UnexpectedRequest : ClientFault
+  RepeatedRequest : ClientFault
+  ReferenceLimit : ClientFault
 
 -- `resumer` is the number of the request that made the phase Resuming
 pub record ClientModel : Type 0 where
@@ -29,7 +29,7 @@ pub record ClientModel : Type 0 where
   pub last : ℕ
   pub asked : List Ask
   pub resumer : ℕ
-  pub fault : Option SeatFault
+  pub fault : Option ClientFault
 
 -- a fresh client
 abbrev pub client_model_start : ClientModel
@@ -70,6 +70,9 @@ allows Exited ready Cancel = true
 allows Configuring ready Terminate = true
 allows Running ready Terminate = true
 allows Stopped ready Terminate = true
+allows Configuring ready Restart = true
+allows Running ready Restart = true
+allows Stopped ready Restart = true
 allows Running ready Pause = true
 allows Stopped ready Pause = true
 allows Resuming ready Pause = true
@@ -83,12 +86,14 @@ phase_sent _ Disconnect = Ended
 phase_sent Fresh Initialize = Initializing
 phase_sent Stopped Resume = Resuming
 phase_sent Stopped Terminate = Resuming
+phase_sent Stopped Restart = Resuming
 phase_sent p _ = p
 
 -- the number of the request that made it Resuming
 abbrev pub resumer_sent : Phase → Command → ℕ → ℕ → ℕ
 resumer_sent Stopped Resume seq old = seq
 resumer_sent Stopped Terminate seq old = seq
+resumer_sent Stopped Restart seq old = seq
 resumer_sent _ _ seq old = old
 
 -- a request is refused by its table, or where n are outstanding

@@ -2,12 +2,11 @@
 -- Specification, "RunInTerminal Request". That a launch asks for one, and when, is this profile's choice.
 use Rattle.std.specs.Prelude.{codes, bytes_eq, ◌≡◌, ℕ, ◌+◌, ◌==◌, ◌&&◌, nat_lt, List, [], ◌∷◌, ◌++◌, length, Bool, true, false, if◌then◌else◌, Option, Some, None}
 use Rattle.std.specs.List.{list_any}
-use Rattle.std.specs.Set.{distinct_count}
 use Rattle.dap_ends.specs.Messages.{Command, Initialize, ConfigurationDone, Unserved, Ask, Message, Request, Response, Event, code, has_seq, is_same}
 use Rattle.dap_ends.specs.AdapterModel.{AdapterModel, Made, Happening, UnmatchedResponse, MismatchedResponse, fails_with, asks, oldest, parked_of, would_start, after_asking_turn, ends_wait, adapter_model_start, adapter_model_takes, adapter_model_turns, adapter_model_polls, AdapterPhase, AdapterFresh}
-use Rattle.dap_ends.specs.ClientModel.{ClientModel, SeatFault, RepeatedRequest, ReferenceLimit, client_model_start, after_sending, may_send, next_ask, client_model_takes, requests_without}
+use Rattle.dap_ends.specs.ClientModel.{ClientModel, ClientFault, RepeatedRequest, ReferenceLimit, client_model_start, after_sending, may_send, next_ask, client_model_takes, requests_without}
 use Rattle.dap_ends.specs.World.{after_using_number}
-use Rattle.dap_ends.specs.References.{Ref, Note, Table, RefWorld, same_ref, all_in, given_by, given_sent, given_after, references_carried, inspection_succeeds, table_after, table_polled, moves_by_itself, Eyes}
+use Rattle.dap_ends.specs.References.{Ref, Note, Table, RefWorld, all_in, given_by, given_sent, given_with, given_after, references_carried, inspection_succeeds, table_after, table_polled, moves_by_itself, Eyes}
 
 -- a message with its number
 pub record NumberedNote : Type 0 where
@@ -22,7 +21,7 @@ pub record WrittenNote : Type 0 where
 -- both ends, the messages under way, and what was written
 pub record Pair : Type 0 where
   -- the client, and the references that it knows
-  pub seat : ClientModel
+  pub client : ClientModel
   pub given : List Ref
   -- whether the last initialize that it sent announces that it runs terminals, and the adapter's requests that it keeps
   pub announced : Bool
@@ -30,7 +29,7 @@ pub record Pair : Type 0 where
   -- what is under way to the adapter
   pub up : List NumberedNote
   -- the adapter, and its table of references
-  pub desk : AdapterModel
+  pub adapter : AdapterModel
   pub table : Table
   -- of the client's request of that number: the references that it names, and whether it announces or asks for a terminal
   pub uses : ℕ → List Ref
@@ -47,12 +46,12 @@ pub record Pair : Type 0 where
 abbrev pub pair_start : Pair
 pair_start =
     record {
-      seat = client_model_start;
+      client = client_model_start;
       given = [];
       announced = false;
       incoming = [];
       up = [];
-      desk = adapter_model_start;
+      adapter = adapter_model_start;
       table = record { base = 0; live = [] };
       uses = λ q. [];
       wants = λ q. false;
@@ -105,13 +104,13 @@ notes_written_by b [] = []
 notes_written_by b (m ∷ ms) = record { by_client = b; numbered = m } ∷ notes_written_by b ms
 
 -- whether a fault has closed the client
-abbrev pub has_fault : Option SeatFault → Bool
+abbrev pub has_fault : Option ClientFault → Bool
 has_fault None = false
 has_fault (Some f) = true
 
 -- the client closes
-abbrev pub with_fault : Pair → SeatFault → Pair
-with_fault w f = record w { seat = record w.seat { fault = Some f } }
+abbrev pub with_fault : Pair → ClientFault → Pair
+with_fault w f = record w { client = record w.client { fault = Some f } }
 
 -- what an initialize that is sent announces
 abbrev pub announced_after_sending : Command → Bool → Bool → Bool
@@ -120,35 +119,35 @@ announced_after_sending _ wanted old = old
 
 -- the client's request as it is written
 abbrev pub request_written : Pair → Command → List ℕ → ℕ → List Ref → NumberedNote
-request_written w command which target refs = record { seq = w.seat.last + 1; note = record { message = Request (next_ask w.seat command which) target; refs = refs } }
+request_written w command which target refs = record { seq = w.client.last + 1; note = record { message = Request (next_ask w.client command which) target; refs = refs } }
 
 -- a request that is not refused
 abbrev pub pair_after_sending : Pair → Command → List ℕ → ℕ → Bool → List Ref → Pair
 pair_after_sending w command which target wanted refs =
     record w {
-      seat = after_sending w.seat command which;
+      client = after_sending w.client command which;
       given = given_sent command w.given;
       announced = announced_after_sending command wanted w.announced;
       up = w.up ++ request_written w command which target refs ∷ [];
-      uses = λ q. if q == w.seat.last + 1 then refs else w.uses q;
-      wants = λ q. if q == w.seat.last + 1 then wanted else w.wants q;
+      uses = λ q. if q == w.client.last + 1 then refs else w.uses q;
+      wants = λ q. if q == w.client.last + 1 then wanted else w.wants q;
       written = w.written ++ record { by_client = true; numbered = request_written w command which target refs } ∷ [];
     }
 
 -- the client sends: refused after a fault, by its table, for a reference that it does not know, where n are outstanding
 abbrev pub pair_sends : ℕ → Pair → Command → List ℕ → ℕ → Bool → List Ref → Pair
 pair_sends n w command which target wanted refs =
-    if all_in w.given refs && may_send n w.seat command then pair_after_sending w command which target wanted refs else w
+    if all_in w.given refs && may_send n w.client command then pair_after_sending w command which target wanted refs else w
 
 -- the client's answer to a request of the adapter, as it is written
 abbrev pub reply : Pair → Ask → Bool → NumberedNote
-reply w a ok = record { seq = w.seat.last + 1; note = record { message = Response a ok; refs = [] } }
+reply w a ok = record { seq = w.client.last + 1; note = record { message = Response a ok; refs = [] } }
 
 -- the client writes it
 abbrev pub replies : Pair → Ask → Bool → Pair
 replies w a ok =
     record w {
-      seat = after_using_number w.seat;
+      client = after_using_number w.client;
       up = w.up ++ reply w a ok ∷ [];
       written = w.written ++ record { by_client = true; numbered = reply w a ok } ∷ [];
     }
@@ -167,7 +166,7 @@ pair_answers w (Some a) ok = replies (record w { incoming = requests_without a.s
 abbrev pub pair_after_adapter : Pair → Made → List Ref → Table → Pair
 pair_after_adapter w m refs t =
     record w {
-      desk = m.desk;
+      adapter = m.adapter;
       table = t;
       used = w.used + length m.outs;
       down = w.down ++ numbered_notes w.used refs m.outs;
@@ -176,20 +175,20 @@ pair_after_adapter w m refs t =
 
 -- the adapter closes
 abbrev pub pair_fails : Pair → Made → Pair
-pair_fails w m = record w { desk = m.desk }
+pair_fails w m = record w { adapter = m.adapter }
 
 -- a response comes to the adapter: in Asked a success has the debuggee start, and the parked launch is answered
 abbrev pub pair_takes_response : Pair → Ask → Bool → Bool → Pair
 pair_takes_response w a ok starts =
     if list_any (has_seq a.seq) w.asked
     then (if list_any (is_same a) w.asked
-    then pair_after_adapter (record w { asked = requests_without a.seq w.asked }) (ends_wait w.desk.phase w.desk (ok && starts)) [] w.table
-    else pair_fails w (fails_with w.desk MismatchedResponse))
-    else pair_fails w (fails_with w.desk UnmatchedResponse)
+    then pair_after_adapter (record w { asked = requests_without a.seq w.asked }) (ends_wait w.adapter.phase w.adapter (ok && starts)) [] w.table
+    else pair_fails w (fails_with w.adapter MismatchedResponse))
+    else pair_fails w (fails_with w.adapter UnmatchedResponse)
 
 -- a message comes to the adapter
 abbrev pub pair_takes_up : ℕ → Pair → Message → Bool → Pair
-pair_takes_up n w (Request a target) starts = pair_after_adapter w (adapter_model_takes n w.desk (Request a target)) [] w.table
+pair_takes_up n w (Request a target) starts = pair_after_adapter w (adapter_model_takes n w.adapter (Request a target)) [] w.table
 pair_takes_up n w (Response a ok) starts = pair_takes_response w a ok starts
 pair_takes_up n w (Event kind) starts = w
 
@@ -206,7 +205,7 @@ launch_seq _ a ls = a.seq
 -- whether this turn asks for a terminal
 abbrev pub turn_asks : Pair → Option Ask → Bool
 turn_asks w None = false
-turn_asks w (Some a) = would_start w.desk.phase a.command && (w.terminal && w.wants (launch_seq a.command a (asks (parked_of w.desk.kept))))
+turn_asks w (Some a) = would_start w.adapter.phase a.command && (w.terminal && w.wants (launch_seq a.command a (asks (parked_of w.adapter.kept))))
 
 -- whether a terminal was announced, after a command: an initialize in the first phase succeeds
 abbrev pub terminal_after_command : AdapterPhase → Command → Bool → Bool → Bool
@@ -230,14 +229,14 @@ writes_terminal_ask w =
 
 -- a turn in which the launch at hand asks for a terminal
 abbrev pub pair_asks_terminal : Pair → Pair
-pair_asks_terminal w = writes_terminal_ask (pair_after_adapter w (after_asking_turn (oldest w.desk.kept) w.desk) [] w.table)
+pair_asks_terminal w = writes_terminal_ask (pair_after_adapter w (after_asking_turn (oldest w.adapter.kept) w.adapter) [] w.table)
 
 -- any other turn
 abbrev pub pair_after_turn : ℕ → Pair → Bool → List Bool → List Ref → Pair
 pair_after_turn r w ok more named =
-    pair_after_adapter (record w { terminal = terminal_after_turn w.desk.phase (oldest w.desk.kept) w.wants w.terminal })
-    (adapter_model_turns w.desk (inspection_succeeds r w.table more named (oldest w.desk.kept) ok)) named
-    (table_after (oldest w.desk.kept) w.desk.phase (inspection_succeeds r w.table more named (oldest w.desk.kept) ok) w.table more)
+    pair_after_adapter (record w { terminal = terminal_after_turn w.adapter.phase (oldest w.adapter.kept) w.wants w.terminal })
+    (adapter_model_turns w.adapter (inspection_succeeds r w.table more named (oldest w.adapter.kept) ok)) named
+    (table_after (oldest w.adapter.kept) w.adapter.phase (inspection_succeeds r w.table more named (oldest w.adapter.kept) ok) w.table more)
 
 -- setVariable gives no reference
 abbrev pub unless_sets_variable : {A : Type 0} → Bool → List A → List A
@@ -247,9 +246,9 @@ unless_sets_variable false xs = xs
 -- a turn
 abbrev pub pair_turns : ℕ → Pair → Bool → List Bool → List Ref → Pair
 pair_turns r w ok more named =
-    if turn_asks w (oldest w.desk.kept)
+    if turn_asks w (oldest w.adapter.kept)
     then pair_asks_terminal w
-    else pair_after_turn r w ok (unless_sets_variable (sets_variable (oldest w.desk.kept)) more) (unless_sets_variable (sets_variable (oldest w.desk.kept)) named)
+    else pair_after_turn r w ok (unless_sets_variable (sets_variable (oldest w.adapter.kept)) more) (unless_sets_variable (sets_variable (oldest w.adapter.kept)) named)
 
 -- a request of the adapter comes to the client: it is kept, or answered at once
 abbrev pub pair_takes_request : ℕ → Pair → Ask → Pair
@@ -262,14 +261,14 @@ pair_takes_request n w a =
 
 -- what the client's phase and references go by
 abbrev pub pair_eyes : Pair → Eyes
-pair_eyes w = record { phase = w.seat.phase; resumer = w.seat.resumer; given = w.given }
+pair_eyes w = record { phase = w.client.phase; resumer = w.client.resumer; given = w.given }
 
 -- a response or an event comes to it; one that would make it know more than r references closes it
 abbrev pub pair_takes_report : ℕ → Pair → Note → Pair
 pair_takes_report r w m =
-    if nat_lt r (distinct_count same_ref (given_after (pair_eyes w) m.message m.refs))
+    if nat_lt r (length (given_with (pair_eyes w) m.message m.refs))
     then with_fault w ReferenceLimit
-    else record w { seat = client_model_takes w.seat m.message; given = given_after (pair_eyes w) m.message m.refs }
+    else record w { client = client_model_takes w.client m.message; given = given_after (pair_eyes w) m.message m.refs }
 
 -- a message comes to the client
 abbrev pub pair_takes_down : ℕ → ℕ → Pair → Message → List Ref → Pair
@@ -284,7 +283,7 @@ pair_comes_down n r w (m ∷ ms) = pair_takes_down n r (record w { down = ms }) 
 
 -- a client that a fault has closed does nothing
 abbrev pub unless_fault : Pair → Pair → Pair
-unless_fault w v = if has_fault w.seat.fault then w else v
+unless_fault w v = if has_fault w.client.fault then w else v
 
 -- a step; n is the limit of requests of each side, r that of references
 abbrev pub pair_happens : ℕ → ℕ → Pair → PairStep → Pair
@@ -292,7 +291,7 @@ pair_happens n r w (PairSend command which target wanted refs) = unless_fault w 
 pair_happens n r w (PairAnswer q ok) = unless_fault w (pair_answers w (request_with_seq q w.incoming) ok)
 pair_happens n r w (PairDeliverUp starts) = pair_comes_up n w w.up starts
 pair_happens n r w (PairTurn ok more named) = pair_turns r w ok more named
-pair_happens n r w (PairPoll x) = pair_after_adapter w (adapter_model_polls w.desk x) [] (table_polled w.desk.phase x w.table)
+pair_happens n r w (PairPoll x) = pair_after_adapter w (adapter_model_polls w.adapter x) [] (table_polled w.adapter.phase x w.table)
 pair_happens n r w PairDeliverDown = unless_fault w (pair_comes_down n r w w.down)
 
 -- a schedule
@@ -302,7 +301,7 @@ pair_run n r (s ∷ ss) w = pair_run n r ss (pair_happens n r w s)
 
 -- the premise of the laws on references: while it is stopped the debuggee neither continues, nor stops again, nor exits by itself, and while it runs it does not continue
 abbrev pub PairStepIsStill : Pair → PairStep → Type 0
-PairStepIsStill w (PairPoll x) = moves_by_itself w.desk.phase x ≡ false
+PairStepIsStill w (PairPoll x) = moves_by_itself w.adapter.phase x ≡ false
 PairStepIsStill w (PairSend command which target wanted refs) = Unit {0}
 PairStepIsStill w (PairAnswer q ok) = Unit {0}
 PairStepIsStill w (PairDeliverUp starts) = Unit {0}
@@ -374,8 +373,8 @@ without_client_responses (l ∷ ls) = unless_client_response l.by_client l.numbe
 
 -- the world of the client's requests alone, with a client in the place of the pair's
 abbrev pub client_world_with : ClientModel → Pair → RefWorld
-client_world_with s w = record { seat = s; given = w.given; up = requests_up w.up; desk = w.desk; uses = w.uses; table = w.table; down = reports_down w.down; written = client_dialogue w.written }
+client_world_with s w = record { client = s; given = w.given; up = requests_up w.up; adapter = w.adapter; uses = w.uses; table = w.table; down = reports_down w.down; written = client_dialogue w.written }
 
 -- the world of the client's requests alone
 abbrev pub client_world : Pair → RefWorld
-client_world w = client_world_with w.seat w
+client_world w = client_world_with w.client w

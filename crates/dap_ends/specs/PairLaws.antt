@@ -66,15 +66,15 @@ turns_of (c ∷ cs) = PairTurn c.ok c.more c.named ∷ turns_of cs
 
 -- the answer that the terminal runs, or not, ends the waiting: the debuggee starts or does not, and the parked launch is answered
 pub record AnswersLaunch (w v : Pair) (ok : Bool) : Type 0 where
-  pub phase : v.desk.phase ≡ phase_after_start ok
-  pub parked : parked_of v.desk.kept ≡ []
-  pub others : unparked_of v.desk.kept ≡ unparked_of w.desk.kept
+  pub phase : v.adapter.phase ≡ phase_after_start ok
+  pub parked : parked_of v.adapter.kept ≡ []
+  pub others : unparked_of v.adapter.kept ≡ unparked_of w.adapter.kept
   pub none : v.asked ≡ []
-  pub told : v.down ≡ w.down ++ numbered_notes w.used [] (answer_each ok (asks (parked_of w.desk.kept)))
+  pub told : v.down ≡ w.down ++ numbered_notes w.used [] (answer_each ok (asks (parked_of w.adapter.kept)))
 
 -- after the end it has no other effect
 pub record ComesLate (w v : Pair) : Type 0 where
-  pub same : v.desk ≡ w.desk
+  pub same : v.adapter ≡ w.adapter
   pub none : v.asked ≡ []
   pub silent : v.down ≡ w.down
   pub unwritten : v.written ≡ w.written

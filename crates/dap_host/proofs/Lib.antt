@@ -5,5 +5,5 @@ mod FetchLemmas
 mod HostingLemmas
 mod LogLemmas
 mod LongLemmas
-mod StreamLemmas
+mod MessageLemmas
 mod KeepLemmas

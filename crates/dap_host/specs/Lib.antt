@@ -4,4 +4,3 @@ pub mod Fetching
 pub mod PrivateFetching
 pub mod Hosting
 pub mod PrivateHosting
-pub mod StreamLaws

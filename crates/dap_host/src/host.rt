@@ -1,19 +1,22 @@
 //! A host's lines, one after the other.
-ghost use Rattle.std.specs.Prelude.{◌≡◌, IfOk, drop};
+ghost use Rattle.std.specs.Prelude.{◌≡◌, ◌≢◌, ◌++◌, List, IfOk, drop};
+ghost use Rattle.dap_envelope.specs.declared.message.Message.{Message};
+ghost use Rattle.dap_line.specs.Written.{message_lines};
+ghost use Rattle.dap_outbox.specs.Draft.{bytes_of};
 ghost use Rattle.dap_plan.specs.declared.fault.AdapterFault.{AdapterFault};
 ghost use Rattle.dap_decision.specs.Table.{is_phase};
 ghost use Rattle.dap_decision.specs.declared.phase.Phase.{Phase};
-ghost use Rattle.dap_frame.specs.Written.{frame_of};
 ghost use Rattle.dap_host.specs.Hearing.{mark_of, state_of, drop_of, is_for_client};
 
-use crate::streams::frames_come_one_by_one;
-use dap_adapter::{Adapter, AdapterFault, Phase};
+use crate::limits::limits_are_in_range;
+use crate::messages::push_messages;
+use dap_adapter::{Adapter, AdapterFault, Phase, bodies_come_one_by_one};
 use dap_debuggee::State;
-use dap_frame::{Limits, write_frame};
+use dap_frame::Limits;
 use dap_json::object_reader::Scratch;
 use dap_line::{
     HostSources, Refusal, Said, Told, Unread, body_refusal, coming_of, happening_in, push_acts,
-    push_messages, push_refusal, push_target, read_said, sources_in,
+    push_refusal, push_target, read_said, sources_in,
 };
 use dap_live::{Coming, Dropped, Live, Mail, why_dropped};
 use dap_recording::RecordingFault;
@@ -95,15 +98,6 @@ fn is_for_client(coming: &Coming) -> bool
     }
 }
 
-/// The frame of a body.
-fn frame_with(alloc: Global, body: &[u8]) -> Result<Vec<u8>, AllocError>
-    ensures { IfOk result (λ frame. frame.items ≡ frame_of body.now) }
-{
-    let mut frame = Vec::new(alloc);
-    write_frame(&mut frame, body)?;
-    Ok(frame)
-}
-
 /// An adapter over a debuggee that a host feeds by lines.
 #[derive(Drop)]
 pub struct Host {
@@ -140,7 +134,6 @@ impl Host {
     ghost use Rattle.dap_line.specs.Written.{message_lines, refusal_line, target_line};
     ghost use Rattle.dap_line.specs.declared.told.Said.{Said};
     ghost use Rattle.dap_tables.specs.References.{target_of};
-    ghost use Rattle.dap_envelope.specs.ReadBack.{AllReadBack};
     ghost use Rattle.dap_envelope.specs.declared.message.Message.{Message};
     ghost use Rattle.dap_outbox.specs.Draft.{bytes_of};
     ghost use Rattle.dap_plan.specs.Polling.{has_debuggee};
@@ -164,7 +157,8 @@ impl Host {
         ensures refused { IfErr result (FileRefused bytes.now) }
     {
         // For the proof: no message is under way.
-        frames_come_one_by_one(&limits);
+        limits_are_in_range(&limits);
+        bodies_come_one_by_one::<Live>();
         let mail = Rc::new(alloc, Mail::new(alloc))?;
         let shared = mail.clone()?;
         let told = sources_in(alloc, bytes)?;
@@ -320,15 +314,13 @@ impl Host {
         ensures going { OnOk result (IsGoing self.new) }
         ensures stops { IfErr result (λ fault. fault ≢ AdapterFault.OutOfMemory → StopsMessage self.old body.now out.old.items out.new.items self.new fault) }
     {
-        // For the proof: the frame of a body is one message.
-        frames_come_one_by_one(&self.limits);
-        let Ok(frame) = frame_with(alloc, body) else {
-            return Err(AdapterFault::OutOfMemory);
-        };
+        // For the proof: a body is one message.
+        limits_are_in_range(&self.limits);
+        bodies_come_one_by_one::<Live>();
         let mut bytes = Vec::new(alloc);
-        match self.adapter.answer(alloc, &frame, &mut bytes) {
+        match self.adapter.answer_body(alloc, body, &mut bytes) {
             Ok(_ended) => self.hand_out(alloc, &bytes, out),
-            Err(fault) => Err(self.break_off(&bytes, fault, out)),
+            Err(fault) => Err(break_off(&bytes, fault, out)),
         }
     }
 
@@ -541,7 +533,7 @@ impl Host {
         ensures stops { IfErr result (λ fault. fault ≢ AdapterFault.OutOfMemory → StopsTelling self.old out.old.items out.new.items self.new fault) }
     {
         // For the proof: no message is under way.
-        frames_come_one_by_one(&self.limits);
+        bodies_come_one_by_one::<Live>();
         self.mail.post(coming);
         let mut bytes = Vec::new(alloc);
         match self.adapter.tell(alloc, &mut bytes) {
@@ -549,19 +541,19 @@ impl Host {
                 Ok(()) => Ok(!bytes.is_empty()),
                 Err(fault) => Err(fault),
             },
-            Err(fault) => Err(self.break_off(&bytes, fault, out)),
+            Err(fault) => Err(break_off(&bytes, fault, out)),
         }
     }
 
     /// Appends the lines of what the adapter wrote, and of what the debugger has to do.
     fn hand_out(&self, alloc: Global, bytes: &[u8], out: &mut Vec<u8>) -> Result<(), AdapterFault>
-        ensures out { OnOk result ((outs : List Message) → bytes.now ≡ bytes_of outs → AllReadBack self.now.limits.body outs → HandsOut outs out.old.items out.new.items) }
+        ensures out { OnOk result ((outs : List Message) → bytes.now ≡ bytes_of outs → HandsOut outs out.old.items out.new.items) }
         ensures memory { IfErr result (λ fault. fault ≡ AdapterFault.OutOfMemory) }
     {
         let Ok(acts) = self.mail.take_acts(alloc) else {
             return Err(AdapterFault::OutOfMemory);
         };
-        if push_messages(self.limits, bytes, out).is_err() {
+        if push_messages(bytes, out).is_err() {
             return Err(AdapterFault::OutOfMemory);
         }
         match push_acts(alloc, out, &acts) {
@@ -569,15 +561,15 @@ impl Host {
             Err(_) => Err(AdapterFault::OutOfMemory),
         }
     }
+}
 
-    /// Appends the lines of what the adapter wrote before a fault, and answers why it stops.
-    fn break_off(&self, bytes: &[u8], fault: AdapterFault, out: &mut Vec<u8>) -> AdapterFault
-        ensures is { result ≢ AdapterFault.OutOfMemory → result ≡ fault }
-        ensures out { result ≢ AdapterFault.OutOfMemory → (outs : List Message) → bytes.now ≡ bytes_of outs → AllReadBack self.now.limits.body outs → out.new.items ≡ out.old.items ++ message_lines outs }
-    {
-        match push_messages(self.limits, bytes, out) {
-            Ok(()) => fault,
-            Err(_) => AdapterFault::OutOfMemory,
-        }
+/// Appends the lines of what the adapter wrote before a fault, and answers why it stops.
+fn break_off(bytes: &[u8], fault: AdapterFault, out: &mut Vec<u8>) -> AdapterFault
+    ensures is { result ≢ AdapterFault.OutOfMemory → result ≡ fault }
+    ensures out { result ≢ AdapterFault.OutOfMemory → (outs : List Message) → bytes.now ≡ bytes_of outs → out.new.items ≡ out.old.items ++ message_lines outs }
+{
+    match push_messages(bytes, out) {
+        Ok(()) => fault,
+        Err(_) => AdapterFault::OutOfMemory,
     }
 }

@@ -9,7 +9,8 @@
 mod fetching;
 mod host;
 mod hosting;
-mod streams;
+mod limits;
+mod messages;
 
 pub use dap_line::{HostKey, Refusal};
 pub use host::{Host, LONGEST_LINE};

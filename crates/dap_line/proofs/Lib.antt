@@ -1,4 +1,2 @@
 mod AddsLemmas
-mod BodyLemmas
-mod MessageLemmas
 pub mod VariableLemmas

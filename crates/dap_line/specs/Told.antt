@@ -2,16 +2,18 @@
 use Rattle.std.specs.Prelude.{◌≡◌, ℕ, ℤ, Bool, false, List, [], ◌∷◌, ◌++◌, codes, bytes_eq, Vec, Option, Some, None, option_and_then, option_map, Result, Ok, Err, if◌then◌else◌}
 use Rattle.serde_json.specs.Data.{Data, Items, no_items, item}
 use Rattle.serde_json.specs.Find.{as_str, as_bool, as_array}
-use Rattle.dap_command.specs.Numbers.{int_of, number_of}
+use Rattle.dap_json.specs.Numbers.{int_of, number_of}
 use Rattle.dap_debuggee.specs.declared.answers.Category.{Category as Place}
 use Rattle.dap_debuggee.specs.declared.answers.Category.TheVariants.{Console, Stdout, Stderr}
 use Rattle.dap_debuggee.specs.declared.answers.Happening.{Happening}
 use Rattle.dap_debuggee.specs.declared.answers.Happening.TheVariants as happening
 use Rattle.dap_debuggee.specs.declared.answers.Variable.{Variable}
-use Rattle.dap_json.specs.Field.{text_at, tree_at}
+use Rattle.dap_json.specs.Field.{tree_at}
+use Rattle.dap_json.specs.Property.{or_bad, required, in_shape, in_shape_or}
 use Rattle.dap_json.specs.Read.{json_of}
 use Rattle.dap_json.specs.Steps.{◌>>=◌, Returns}
 use Rattle.dap_recording.specs.Reading.{exit_of}
+use Rattle.dap_line.specs.Written.{host_key_name}
 use Rattle.dap_line.specs.declared.refusal.HostKey.{HostKey}
 use Rattle.dap_line.specs.declared.refusal.HostKey.TheVariants.{Happened, Category, Output, Reason, Thread, Moment, Code, Text, Value, Later, Holder, Variables, Name, Asked, Number, Sources}
 use Rattle.dap_line.specs.declared.refusal.Refusal.{Refusal}
@@ -38,9 +40,20 @@ pub record IsMessage (body : List ℕ) : Type 0 where
 abbrev pub Read : Type 0 → Type 0
 Read A = Result A HostKey
 
-abbrev pub or_bad : {A : Type 0} → HostKey → Option A → Read A
-or_bad k None = Err k
-or_bad k (Some x) = Ok x
+-- null counts as absent
+abbrev pub value_at : HostKey → Data → Option Data
+value_at k d = tree_at (host_key_name k) d
+
+-- the value at a key, which has to be there in this shape
+abbrev pub required_at : {A : Type 0} → (Data → Option A) → HostKey → Data → Read A
+required_at shape k d = required shape k (value_at k d)
+
+-- the value at a key, which may be absent, but has this shape where it is there
+abbrev pub optional_at : {A : Type 0} → (Data → Option A) → HostKey → Data → Read (Option A)
+optional_at shape k d = in_shape shape k (value_at k d)
+
+abbrev pub optional_or : {A : Type 0} → (Data → Option A) → A → HostKey → Data → Read A
+optional_or shape default k d = in_shape_or shape default k (value_at k d)
 
 -- what is told, or why it is not read; nothing is said where memory was refused
 abbrev pub SaysKey : {A : Type 0} → Unread → Read A → Type 0
@@ -59,61 +72,16 @@ GivesList result read = Returns (λ xs. xs.items) SaysKey result read
 abbrev pub category_named : List ℕ → Option Place
 category_named name = if bytes_eq name (codes "console") then Some Console else (if bytes_eq name (codes "stdout") then Some Stdout else (if bytes_eq name (codes "stderr") then Some Stderr else None))
 
--- the console where nothing is said
-abbrev pub category_of : Option Data → Option Place
-category_of None = Some Console
-category_of (Some d) = option_and_then category_named (as_str d)
-
--- a text, or nothing
-abbrev pub value_of : Option Data → Option (Option (List ℕ))
-value_of None = Some None
-value_of (Some d) = option_map Some (as_str d)
-
--- nothing is told later where nothing is said
-abbrev pub later_of : Option Data → Option Bool
-later_of None = Some false
-later_of (Some d) = as_bool d
-
--- a holder's number, or nothing
-abbrev pub holder_of : Option Data → Option (Option ℕ)
-holder_of None = Some None
-holder_of (Some d) = option_map Some (number_of d)
-
-abbrev pub text_in : HostKey → List ℕ → Data → Read (List ℕ)
-text_in k name d = or_bad k (text_at name d)
-
-abbrev pub category_in : Data → Read Place
-category_in d = or_bad Category (category_of (tree_at (codes "category") d))
-
-abbrev pub thread_in : Data → Read ℤ
-thread_in d = or_bad Thread (option_and_then int_of (tree_at (codes "thread") d))
-
-abbrev pub code_in : Data → Read ℤ
-code_in d = or_bad Code (option_and_then exit_of (tree_at (codes "code") d))
-
-abbrev pub value_in : Data → Read (Option (List ℕ))
-value_in d = or_bad Value (value_of (tree_at (codes "value") d))
-
-abbrev pub later_in : Data → Read Bool
-later_in d = or_bad Later (later_of (tree_at (codes "later") d))
-
-abbrev pub holder_in : Data → Read (Option ℕ)
-holder_in d = or_bad Holder (holder_of (tree_at (codes "holder") d))
-
--- one that has to be there
-abbrev pub told_holder_in : Data → Read ℕ
-told_holder_in d = or_bad Holder (option_and_then number_of (tree_at (codes "holder") d))
-
-abbrev pub moment_in : Data → Read Data
-moment_in d = or_bad Moment (tree_at (codes "moment") d)
+abbrev pub category_of : Data → Option Place
+category_of d = option_and_then category_named (as_str d)
 
 -- ---- variables
 
 unfoldable pub variable_of : Data → Read Variable
 variable_of d = do
-  name ← text_in Name (codes "name") d
-  value ← text_in Value (codes "value") d
-  holder ← holder_in d
+  name ← required_at as_str Name d
+  value ← required_at as_str Value d
+  holder ← optional_at number_of Holder d
   Ok (record { name = name; value = value; holder = holder })
 
 -- each one behind those before it
@@ -129,41 +97,43 @@ variables_of (Some ds) = each_variable ds []
 
 -- ---- what is told, by its kind
 
+-- output goes to the console where nothing is said
 unfoldable pub output_in : Data → Read Told
 output_in d = do
-  category ← category_in d
-  text ← text_in Output (codes "output") d
+  category ← optional_or category_of Console Category d
+  text ← required_at as_str Output d
   Ok (told.Output category text)
 
+-- nothing is told later where nothing is said
 unfoldable pub stop_in : Data → Read Told
 stop_in d = do
-  reason ← text_in Reason (codes "reason") d
-  thread ← thread_in d
-  later ← later_in d
-  moment ← moment_in d
+  reason ← required_at as_str Reason d
+  thread ← required_at int_of Thread d
+  later ← optional_or as_bool false Later d
+  moment ← or_bad Moment (value_at Moment d)
   Ok (told.Stopped reason thread moment later)
 
 unfoldable pub continued_in : Data → Read Told
 continued_in d = do
-  thread ← thread_in d
+  thread ← required_at int_of Thread d
   Ok (told.Continued thread)
 
 unfoldable pub exit_in : Data → Read Told
 exit_in d = do
-  code ← code_in d
+  code ← required_at exit_of Code d
   Ok (told.Exited code)
 
 unfoldable pub learned_in : Data → Read Told
 learned_in d = do
-  text ← text_in Text (codes "text") d
-  value ← value_in d
-  holder ← holder_in d
+  text ← required_at as_str Text d
+  value ← optional_at as_str Value d
+  holder ← optional_at number_of Holder d
   Ok (told.Learned text value holder)
 
 -- of a holder, with these variables
 unfoldable pub variables_in : Data → Data → Read Told
 variables_in d t = do
-  holder ← told_holder_in t
+  holder ← required_at number_of Holder t
   variables ← variables_of (as_array d)
   Ok (told.Variables holder variables)
 
@@ -174,7 +144,7 @@ learned_by (Some d) t = variables_in d t
 
 unfoldable pub loaded_in : Data → Read Told
 loaded_in d = do
-  sources ← or_bad Sources (tree_at (codes "sources") d)
+  sources ← or_bad Sources (value_at Sources d)
   Ok (told.Loaded sources)
 
 abbrev pub kind_named : List ℕ → Option Kind
@@ -191,12 +161,15 @@ told_by kind.Output d = output_in d
 told_by kind.Stopped d = stop_in d
 told_by kind.Continued d = continued_in d
 told_by kind.Exited d = exit_in d
-told_by kind.Learned d = learned_by (tree_at (codes "variables") d) d
+told_by kind.Learned d = learned_by (value_at Variables d) d
 told_by kind.Loaded d = loaded_in d
+
+abbrev pub kind_of : Data → Option Kind
+kind_of d = option_and_then kind_named (as_str d)
 
 unfoldable pub told_in : Data → Read Told
 told_in d = do
-  kind ← or_bad Happened (option_and_then kind_named (text_at (codes "happened") d))
+  kind ← required_at kind_of Happened d
   told_by kind d
 
 -- ---- what is said: what happened, or a question
@@ -204,13 +177,13 @@ told_in d = do
 abbrev pub question_named : List ℕ → Option Question
 question_named name = if bytes_eq name (codes "target") then Some question.Target else None
 
-abbrev pub number_in : Data → Read ℕ
-number_in d = or_bad Number (option_and_then number_of (tree_at (codes "number") d))
+abbrev pub question_of : Data → Option Question
+question_of d = option_and_then question_named (as_str d)
 
 unfoldable pub asked_in : Data → Read Said
 asked_in d = do
-  question ← or_bad Asked (option_and_then question_named (text_at (codes "asked") d))
-  number ← number_in d
+  question ← required_at question_of Asked d
+  number ← required_at number_of Number d
   Ok (said.Target number)
 
 unfoldable pub happened_in : Data → Read Said
@@ -223,7 +196,7 @@ said_by None d = happened_in d
 said_by (Some asked) d = asked_in d
 
 abbrev pub said_in : Data → Read Said
-said_in d = said_by (tree_at (codes "asked") d) d
+said_in d = said_by (value_at Asked d) d
 
 -- ---- a text
 

@@ -5,8 +5,6 @@
 #![tactic(auto)]
 
 mod acts;
-mod bodies;
-mod limits;
 mod messages;
 mod moments;
 mod reading;
@@ -16,8 +14,7 @@ mod targets;
 mod told;
 
 pub use acts::push_acts;
-pub use limits::limits_are_in_range;
-pub use messages::push_messages;
+pub use messages::push_message;
 pub use moments::{coming_of, sources_in};
 pub use reading::body_refusal;
 pub use refusal::{HostKey, Refusal, push_refusal};

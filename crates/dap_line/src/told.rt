@@ -1,20 +1,18 @@
 //! What a host tells of its debugger, as it is read.
-ghost use Rattle.std.specs.Prelude.{◌≡◌, [], codes, IfOk};
-ghost use Rattle.serde_json.specs.Find.{as_array};
+ghost use Rattle.std.specs.Prelude.{◌≡◌, [], IfOk};
+ghost use Rattle.serde_json.specs.Find.{as_str, as_array};
 ghost use Rattle.serde_json.specs.View.{view, items_view};
-ghost use Rattle.dap_json.specs.Field.{tree_at};
-ghost use Rattle.dap_line.specs.Told.{later_in as later_at, holder_in as holder_at, told_holder_in as told_holder_at, variable_of, each_variable, variables_of as variables_of_items, variables_in as variables_told, learned_by as learned_of_key, loaded_in as loaded_of, GivesList};
-ghost use Rattle.dap_line.specs.Told.{Gives, Tells, text_in, category_in as category_of, category_named as category_of_name, thread_in as thread_of, code_in as code_of, value_in as value_of, output_in as output_of, stop_in as stop_of, continued_in as continued_of, exit_in as exit_of, learned_in as learned_of, kind_named as kind_of_name, told_in as told_of, happening_of};
-ghost use Rattle.dap_line.specs.Told.{question_named as question_of_name, number_in as number_of_key, asked_in as asked_of, happened_in as happened_of, said_in as said_of};
+ghost use Rattle.dap_json.specs.Lent.{lent_data};
+ghost use Rattle.dap_json.specs.Numbers.{number_of};
+ghost use Rattle.dap_line.specs.Told.{Gives, GivesList, Tells, value_at, required_at, optional_at, optional_or, category_of, category_named as category_of_name, variable_of, each_variable, variables_of as variables_of_items, variables_in as variables_told, learned_by as learned_of_key, loaded_in as loaded_of};
+ghost use Rattle.dap_line.specs.Told.{output_in as output_of, stop_in as stop_of, continued_in as continued_of, exit_in as exit_of, learned_in as learned_of, kind_named as kind_of_name, kind_of, told_in as told_of, happening_of, question_named as question_of_name, question_of, asked_in as asked_of, happened_in as happened_of, said_in as said_of};
 ghost use Rattle.std.specs.Option.{is_some};
-ghost use Rattle.dap_line.specs.Written.{host_key_name};
-ghost use Rattle.dap_line.specs.declared.refusal.Refusal.{Refusal};
-ghost use Rattle.dap_line.specs.declared.told.Unread.{Unread};
 
 use crate::reading::read_value;
 use crate::refusal::{HostKey, Refusal};
 use dap_debuggee::{Category, Happening, Variable};
 use dap_json::object_reader::Scratch;
+use dap_json::property::Property;
 use dap_json::{List, ParseFault, Text, Tree, field};
 use dap_recording::numbers;
 use serde_json::Value;
@@ -88,36 +86,31 @@ impl<T: Drop> From<AllocFailed<T>> for Unread {
     }
 }
 
-fn bad(key: HostKey) -> Unread
-    ensures { result ≡ Unread.Refused (Refusal.BadKey key) }
+impl From<HostKey> for Unread {
+    ghost use Rattle.dap_line.specs.declared.refusal.Refusal.TheVariants.{BadKey};
+    ghost use Rattle.dap_line.specs.declared.told.Unread.TheVariants.{Refused};
+
+    ghost from_gives = { λ key fault. fault ≡ Refused (BadKey key) };
+
+    fn from(key: HostKey) -> Unread {
+        Unread::Refused(Refusal::BadKey(key))
+    }
+}
+
+/// What stands at a key of an object. `null` counts as absent.
+fn at<'v>(told: &'v Value, key: HostKey) -> Property<'v, HostKey>
+    ensures key { result.key ≡ key }
+    ensures found { lent_data result.found ≡ value_at key (view told.now) }
 {
-    Unread::Refused(Refusal::BadKey(key))
+    let found = field::present(told, key.name());
+    Property { found, key }
 }
 
 /// The text at a key.
 fn text_at(alloc: Global, told: &Value, key: HostKey) -> Result<Text, Unread>
-    ensures { Gives result (text_in key (host_key_name key) (view told.now)) }
+    ensures { Gives result (required_at as_str key (view told.now)) }
 {
-    let text = field::text(told, key.name()).ok_or(bad(key))?;
-    Ok(Text::copied(alloc, text)?)
-}
-
-/// The id of a thread.
-fn thread_in(told: &Value) -> Result<i64, Unread>
-    ensures { Gives result (thread_of (view told.now)) }
-{
-    field::present(told, "thread")
-        .and_then(numbers::int)
-        .ok_or(bad(HostKey::Thread))
-}
-
-/// The exit code.
-fn code_in(told: &Value) -> Result<i32, Unread>
-    ensures { Gives result (code_of (view told.now)) }
-{
-    field::present(told, "code")
-        .and_then(numbers::status)
-        .ok_or(bad(HostKey::Code))
+    Ok(Text::copied(alloc, at(told, key).required_text()?)?)
 }
 
 fn category_named(name: &str) -> Option<Category>
@@ -133,57 +126,33 @@ fn category_named(name: &str) -> Option<Category>
 
 /// Where output belongs: to the console where nothing is said.
 fn category_in(told: &Value) -> Result<Category, Unread>
-    ensures { Gives result (category_of (view told.now)) }
+    ensures { Gives result (optional_or category_of Category.Console HostKey.Category (view told.now)) }
 {
-    let Some(value) = field::present(told, "category") else {
+    let Some(value) = at(told, HostKey::Category).found else {
         return Ok(Category::Console);
     };
-    value
-        .as_str()
-        .and_then(category_named)
-        .ok_or(bad(HostKey::Category))
+    let category = value.as_str().and_then(category_named);
+    Ok(category.ok_or(HostKey::Category)?)
 }
 
 /// The value of what is learned, where it has one.
 fn value_in(alloc: Global, told: &Value) -> Result<Option<Text>, Unread>
-    ensures { Gives result (value_of (view told.now)) }
+    ensures { Gives result (optional_at as_str HostKey.Value (view told.now)) }
 {
-    let Some(value) = field::present(told, "value") else {
-        return Ok(None);
-    };
-    let text = value.as_str().ok_or(bad(HostKey::Value))?;
-    Ok(Some(Text::copied(alloc, text)?))
-}
-
-/// Whether more is told later: not where nothing is said.
-fn later_in(told: &Value) -> Result<bool, Unread>
-    ensures { Gives result (later_at (view told.now)) }
-{
-    let Some(value) = field::present(told, "later") else {
-        return Ok(false);
-    };
-    value.as_bool().ok_or(bad(HostKey::Later))
+    match at(told, HostKey::Value).optional_text()? {
+        None => Ok(None),
+        Some(text) => Ok(Some(Text::copied(alloc, text)?)),
+    }
 }
 
 /// The number of a holder, where there is one.
-fn holder_in(told: &Value) -> Result<Option<u64>, Unread>
-    ensures { Gives result (holder_at (view told.now)) }
+fn holder_in(told: &Value) -> Result<Option<u64>, HostKey>
+    ensures { result ≡ optional_at number_of HostKey.Holder (view told.now) }
 {
-    let Some(value) = field::present(told, "holder") else {
-        return Ok(None);
-    };
-    let holder = numbers::number(value).ok_or(bad(HostKey::Holder))?;
-    Ok(Some(holder as u64))
-}
-
-/// The number of the holder that is told.
-fn told_holder_in(told: &Value) -> Result<u64, Unread>
-    ensures { Gives result (told_holder_at (view told.now)) }
-{
-    let holder = field::present(told, "holder")
-        .and_then(numbers::number)
-        .ok_or(bad(HostKey::Holder))?;
-    Ok(holder as u64)
+    match at(told, HostKey::Holder).optional_number()? {
+        None => Ok(None),
+        Some(holder) => Ok(Some(holder as u64)),
+    }
 }
 
 #[tactic(auto, unfolding(crate::specs::Told::variable_of))]
@@ -214,7 +183,7 @@ fn variables_of(alloc: Global, value: &Value) -> Result<List<Variable>, Unread>
     ensures { Gives result (variables_of_items (as_array (view value.now))) }
 {
     let Some(items) = value.as_array() else {
-        return Err(bad(HostKey::Variables));
+        return Err(HostKey::Variables.into());
     };
     Ok(List::new(each_variable(alloc, items)?))
 }
@@ -233,9 +202,9 @@ fn stop_in(alloc: Global, told: &mut Value) -> Result<Told, Unread>
     ensures { Gives result (stop_of (view told.old)) }
 {
     let reason = text_at(alloc, told, HostKey::Reason)?;
-    let thread = thread_in(told)?;
-    let later = later_in(told)?;
-    let moment = field::take_tree(told, "moment").ok_or(bad(HostKey::Moment))?;
+    let thread = at(told, HostKey::Thread).required_int()?;
+    let later = at(told, HostKey::Later).flag_or(false)?;
+    let moment = field::take_tree(told, HostKey::Moment.name()).ok_or(HostKey::Moment)?;
     Ok(Told::Stopped {
         reason,
         thread,
@@ -248,7 +217,7 @@ fn stop_in(alloc: Global, told: &mut Value) -> Result<Told, Unread>
 fn continued_in(told: &Value) -> Result<Told, Unread>
     ensures { Gives result (continued_of (view told.now)) }
 {
-    let thread = thread_in(told)?;
+    let thread = at(told, HostKey::Thread).required_int()?;
     Ok(Told::Continued { thread })
 }
 
@@ -256,7 +225,10 @@ fn continued_in(told: &Value) -> Result<Told, Unread>
 fn exit_in(told: &Value) -> Result<Told, Unread>
     ensures { Gives result (exit_of (view told.now)) }
 {
-    let code = code_in(told)?;
+    let code = at(told, HostKey::Code)
+        .found
+        .and_then(numbers::status)
+        .ok_or(HostKey::Code)?;
     Ok(Told::Exited { code })
 }
 
@@ -279,16 +251,16 @@ fn learned_in(alloc: Global, told: &Value) -> Result<Told, Unread>
 fn variables_in(alloc: Global, value: &Value, told: &Value) -> Result<Told, Unread>
     ensures { Gives result (variables_told (view value.now) (view told.now)) }
 {
-    let holder = told_holder_in(told)?;
+    let holder = at(told, HostKey::Holder).required_number()? as u64;
     let variables = variables_of(alloc, value)?;
     Ok(Told::Variables { holder, variables })
 }
 
 /// The variables of a holder where there are some, else what a text comes to.
 fn learned_by(alloc: Global, told: &Value) -> Result<Told, Unread>
-    ensures { Gives result (learned_of_key (tree_at (codes "variables") (view told.now)) (view told.now)) }
+    ensures { Gives result (learned_of_key (value_at HostKey.Variables (view told.now)) (view told.now)) }
 {
-    match field::present(told, "variables") {
+    match at(told, HostKey::Variables).found {
         None => learned_in(alloc, told),
         Some(value) => variables_in(alloc, value, told),
     }
@@ -298,7 +270,7 @@ fn learned_by(alloc: Global, told: &Value) -> Result<Told, Unread>
 fn loaded_in(told: &mut Value) -> Result<Told, Unread>
     ensures { Gives result (loaded_of (view told.old)) }
 {
-    let sources = field::take_tree(told, "sources").ok_or(bad(HostKey::Sources))?;
+    let sources = field::take_tree(told, HostKey::Sources.name()).ok_or(HostKey::Sources)?;
     Ok(Told::Loaded { sources })
 }
 
@@ -327,14 +299,21 @@ fn kind_named(name: &str) -> Option<Kind>
     }
 }
 
+fn kind_in(value: &Value) -> Option<Kind>
+    ensures { result ≡ kind_of (view value.now) }
+{
+    value.as_str().and_then(kind_named)
+}
+
 /// What is told, by its kind.
 #[tactic(auto, unfolding(crate::specs::Told::told_in))]
 fn told_in(alloc: Global, told: &mut Value) -> Result<Told, Unread>
     ensures { Gives result (told_of (view told.old)) }
 {
-    let kind = field::text(told, "happened")
-        .and_then(kind_named)
-        .ok_or(bad(HostKey::Happened))?;
+    let kind = at(told, HostKey::Happened)
+        .found
+        .and_then(kind_in)
+        .ok_or(HostKey::Happened)?;
     match kind {
         Kind::Output => output_in(alloc, told),
         Kind::Stopped => stop_in(alloc, told),
@@ -359,23 +338,21 @@ fn question_named(name: &str) -> Option<Question>
     }
 }
 
-/// A number of the client.
-fn number_in(said: &Value) -> Result<u32, Unread>
-    ensures { Gives result (number_of_key (view said.now)) }
+fn question_in(value: &Value) -> Option<Question>
+    ensures { result ≡ question_of (view value.now) }
 {
-    field::present(said, "number")
-        .and_then(numbers::number)
-        .ok_or(bad(HostKey::Number))
+    value.as_str().and_then(question_named)
 }
 
 #[tactic(auto, unfolding(crate::specs::Told::asked_in))]
 fn asked_in(said: &Value) -> Result<Said, Unread>
     ensures { Gives result (asked_of (view said.now)) }
 {
-    let _question = field::text(said, "asked")
-        .and_then(question_named)
-        .ok_or(bad(HostKey::Asked))?;
-    let number = number_in(said)?;
+    let _question = at(said, HostKey::Asked)
+        .found
+        .and_then(question_in)
+        .ok_or(HostKey::Asked)?;
+    let number = at(said, HostKey::Number).required_number()?;
     Ok(Said::Target(number))
 }
 
@@ -388,9 +365,9 @@ fn happened_in(alloc: Global, said: &mut Value) -> Result<Said, Unread>
 }
 
 fn is_question(said: &Value) -> bool
-    ensures { result ≡ is_some (tree_at (codes "asked") (view said.now)) }
+    ensures { result ≡ is_some (value_at HostKey.Asked (view said.now)) }
 {
-    field::present(said, "asked").is_some()
+    at(said, HostKey::Asked).found.is_some()
 }
 
 /// What is said: a question where there is one, else what happened.

@@ -1,15 +1,18 @@
 -- What is dropped of what a host says of its debuggee, and why.
 -- This profile's choice: the trait's laws say what may happen in a state, and in which range.
-use Rattle.std.specs.Prelude.{◌≡◌, ℕ, nat_lt, List, length, Option, Some, None, IsTrue, if◌then◌else◌}
+use Rattle.std.specs.Prelude.{◌≡◌, ℕ, ℤ, ◌+◌, nat_lt, nat_le, List, length, Option, Some, None, IsTrue, if◌then◌else◌}
 use Rattle.dap_debuggee.specs.Laws.{may_happen, is_short}
 use Rattle.dap_debuggee.specs.declared.answers.State.{State}
 use Rattle.dap_debuggee.specs.declared.answers.Happening.{Happening}
 use Rattle.dap_debuggee.specs.declared.answers.Happening.TheVariants as happening
 use Rattle.dap_debuggee.specs.declared.answers.Variable.{Variable}
 use Rattle.dap_live.specs.declared.mail.Dropped.{Dropped}
-use Rattle.dap_live.specs.declared.mail.Dropped.TheVariants.{OutOfTurn, OutOfRange, Told, TooManyHolders}
+use Rattle.dap_live.specs.declared.mail.Dropped.TheVariants.{OutOfTurn, OutOfRange, TooManySources, Told, TooManyHolders}
+use Rattle.dap_live.specs.declared.mail.Coming.{Coming}
+use Rattle.dap_live.specs.declared.mail.Coming.TheVariants as coming
 use Rattle.dap_live.specs.declared.here.Here.{Here}
-use Rattle.dap_live.specs.LiveShown.{children_in}
+use Rattle.dap_live.specs.LiveShown.{LiveState, children_in, now_shown}
+use Rattle.dap_replay.specs.Played.{Played, first_of, shown_of}
 
 abbrev pub why_dropped : State → Happening → Option Dropped
 why_dropped state h = if may_happen state h then (if is_short h then None else Some OutOfRange) else Some OutOfTurn
@@ -33,6 +36,31 @@ why_not_more (Some variables) holders = Some Told
 abbrev pub why_untold : Option Here → ℕ → Option Dropped
 why_untold None holder = Some OutOfTurn
 why_untold (Some here) holder = why_not_more (children_in (Some here) holder) (length here.told)
+
+-- ---- a stop, and sources
+
+-- a moment with more sources than the debuggee is not shown
+abbrev pub why_too_wide : Played → Played → Option Dropped
+why_too_wide shows base = if nat_le (length (shown_of shows).sources) (length (shown_of base).sources) then None else Some TooManySources
+
+-- why a stop with this moment is not heard
+abbrev pub why_not_shown : State → Played → List ℕ → ℤ → Played → Option Dropped
+why_not_shown state base reason thread shows = first_of (why_dropped state (happening.Stopped reason thread)) (why_too_wide shows base)
+
+-- why these sources do not come behind those of the debuggee
+abbrev pub why_no_room : Played → Played → Option Dropped
+why_no_room more base = if nat_le (length (shown_of base).sources + length (shown_of more).sources) 65536 then None else Some TooManySources
+
+-- ---- whatever a host says
+
+abbrev pub why_unheard : Coming → LiveState → Option Dropped
+why_unheard (coming.Output category text) v = why_dropped v.state (happening.Output category text)
+why_unheard (coming.Stopped reason thread shows later) v = why_not_shown v.state v.base reason thread shows
+why_unheard (coming.Continued thread) v = why_dropped v.state (happening.Continued thread)
+why_unheard (coming.Exited code) v = why_dropped v.state (happening.Exited code)
+why_unheard (coming.Learned text value holder) v = None
+why_unheard (coming.Variables holder variables) v = why_untold (now_shown v.state v.here) holder
+why_unheard (coming.Sources more) v = why_no_room more v.base
 
 -- ---- law
 

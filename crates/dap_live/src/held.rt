@@ -1,7 +1,7 @@
 //! What a debuggee holds that a host feeds.
 
 use crate::here::Here;
-use crate::mail::Mail;
+use crate::mail::{Dropped, Mail};
 use dap_debuggee::{Asked, Happening, State};
 use dap_json::Text;
 use dap_replay::Recorded;
@@ -25,6 +25,15 @@ pub(crate) struct Learned {
     pub(crate) value: Option<Text>,
     /// What holds the parts of the value.
     pub(crate) holder: Option<u64>,
+}
+
+/// What comes of what a host says.
+#[derive(Drop)]
+pub(crate) struct Heard {
+    /// What is told of it, to be given by a poll.
+    pub(crate) happening: Happening,
+    /// Why it is dropped; `None` where it is heard.
+    pub(crate) dropped: Option<Dropped>,
 }
 
 /// A debuggee that a host feeds.

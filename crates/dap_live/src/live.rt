@@ -1,12 +1,15 @@
 //! The debuggee: what it does when it is asked, and what it tells.
-ghost use Rattle.std.specs.Prelude.{◌≡◌, ◌≤◌, ◌+◌, ◌↔◌, IfOk, IsTrue, length};
+ghost use Rattle.std.specs.Prelude.{◌≡◌, ◌≤◌, ◌+◌, ◌↔◌, IfOk, IsTrue, Some, None, length, if◌then◌else◌};
 ghost use Rattle.dap_debuggee.specs.Laws.{state_after};
-ghost use Rattle.dap_debuggee.specs.Shown.{to_poll, happened};
-ghost use Rattle.dap_replay.specs.Played.{Played, shown_of};
+ghost use Rattle.dap_debuggee.specs.Shown.{Reply, to_poll, to_start, happened};
+ghost use Rattle.dap_live.specs.Dropping.{why_no_room, why_too_wide};
+ghost use Rattle.dap_live.specs.declared.mail.Dropped.{Dropped};
+ghost use Rattle.dap_replay.specs.Played.{FollowsPlayed, Played, shown_of};
 ghost use Rattle.dap_live.specs.LiveShown.{HasFewSources};
+ghost use Rattle.dap_live.specs.PrivateHeld.{asked_of_act};
 
 use crate::dropping::why_dropped;
-use crate::held::{Learned, Live, LiveLast};
+use crate::held::{Heard, Learned, Live, LiveLast};
 use crate::here::Here;
 use crate::mail::{Coming, Dropped, HostAct};
 use dap_command::SourceKey;
@@ -40,6 +43,23 @@ fn copied(happening: &Happening) -> Result<Happening, AllocError>
     }
 }
 
+/// How an act is remembered.
+fn asked_of(act: &HostAct) -> Asked
+    ensures { result ≡ asked_of_act act.now }
+{
+    match act {
+        HostAct::Start => Asked::Start,
+        HostAct::Resume { how, thread } => Asked::Resume {
+            how: *how,
+            thread: *thread,
+        },
+        HostAct::Pause => Asked::Pause,
+        HostAct::SetBreakpoints { .. } => Asked::SetBreakpoints,
+        HostAct::Assign { .. } => Asked::Assign,
+        HostAct::End => Asked::End,
+    }
+}
+
 /// Where a debuggee is once that has happened.
 fn next(state: State, happening: &Happening) -> State
     ensures { result ≡ state_after state to_poll (happened happening.now) }
@@ -54,20 +74,32 @@ fn next(state: State, happening: &Happening) -> State
 
 /// Whether a recording has no more sources than another.
 fn has_few_sources(base: &Recorded, shows: &Recorded) -> bool
-    ensures { IsTrue result ↔ HasFewSources shows.now base.now }
+    ensures few { IsTrue result ↔ HasFewSources shows.now base.now }
+    ensures wide { why_too_wide shows.now base.now ≡ (if result then None else Some Dropped.TooManySources) }
 {
     shows.source_count() <= base.source_count()
 }
 
+/// The same recording, started, unless it is already.
+fn started(alloc: Global, mut shows: Recorded) -> Recorded
+    ensures started { (reply : Reply) × FollowsPlayed shows to_start reply result }
+    ensures sources { length (shown_of result).sources ≡ length (shown_of shows).sources }
+{
+    // Refused where it is started already.
+    let _ = shows.start(alloc);
+    shows
+}
+
 /// Whether there is room for the sources of one recording behind those of another.
 fn has_room(base: &Recorded, more: &Recorded) -> bool
-    ensures { IsTrue result ↔ length (shown_of base.now).sources + length (shown_of more.now).sources ≤ 65536 }
+    ensures room { IsTrue result ↔ length (shown_of base.now).sources + length (shown_of more.now).sources ≤ 65536 }
+    ensures none { why_no_room more.now base.now ≡ (if result then None else Some Dropped.TooManySources) }
 {
     base.source_count().saturating_add(more.source_count()) <= MAX_SOURCES
 }
 
 impl Live {
-    ghost use Rattle.std.specs.Prelude.{◌≡◌, ◌≤◌, ◌+◌, length, Some, None, OnOk, OnErr, IfOk, option_map};
+    ghost use Rattle.std.specs.Prelude.{◌≡◌, ◌≢◌, ◌≤◌, ◌+◌, length, Some, None, OnOk, OnErr, IfOk, option_map};
     ghost use Rattle.std.specs.Option.{IsSome};
     ghost use Rattle.dap_debuggee.specs.Laws.{is_short};
     ghost use Rattle.dap_debuggee.specs.Shown.{to_poll, to_set_breakpoints, to_assign, done, happened};
@@ -75,8 +107,9 @@ impl Live {
     ghost use Rattle.dap_replay.specs.Played.{shown_of, with_sources_of};
     ghost use Rattle.dap_live.specs.LiveShown.{shown_live, HasFewSources, IsFew, now_shown, children_in, told_of, value_told};
     ghost use Rattle.dap_live.specs.LiveLaws.{FollowsLive, with_told, noted};
-    ghost use Rattle.dap_live.specs.Dropping.{heard, why_untold};
-    ghost use Rattle.dap_live.specs.PrivateHeld.{last_of, with_here, with_base, IsNoStop, ShowsFirst};
+    ghost use Rattle.dap_live.specs.Dropping.{why_dropped, why_not_shown, why_no_room, why_unheard, why_untold};
+    ghost use Rattle.dap_live.specs.PrivateHeld.{last_of, done_by, with_here, with_base, IsNoStop, ShowsFirst};
+    ghost use Rattle.dap_live.specs.PrivateHearing.{heard_so, dropped_so, heard_or_dropped, told_by, learned_by, sources_by, ShowsBy, SameShown, StaysButLearned, SetsShown, HasChanged};
 
     /// Counts and remembers an act.
     fn note(&mut self, last: LiveLast)
@@ -148,34 +181,43 @@ impl Live {
     }
 
     /// Nothing happened, and the host may have told what a text comes to.
-    fn see_nothing(&mut self, learned: Option<Learned>) -> Happening
+    fn see_nothing(&mut self, learned: Option<Learned>) -> Heard
         ensures learned { self.new.learned ≡ learned }
-        ensures nothing { result ≡ Happening.Nothing }
-        ensures follows { FollowsLive self.old to_poll (happened result) self.new }
+        ensures stays { StaysButLearned self.old self.new }
+        ensures heard { result ≡ heard_so Happening.Nothing }
+        ensures follows { FollowsLive self.old to_poll (happened Happening.Nothing) self.new }
     {
         self.learned = learned;
         self.note(LiveLast::Polled(Happening::Nothing));
-        Happening::Nothing
+        Heard {
+            happening: Happening::Nothing,
+            dropped: None,
+        }
     }
 
     /// Nothing happened, since what the host says is dropped.
-    fn drop_it(&mut self, why: Dropped) -> Happening
-        ensures nothing { result ≡ Happening.Nothing }
+    fn drop_it(&mut self, why: Dropped) -> Heard
+        ensures dropped { result ≡ dropped_so why }
         ensures forgotten { self.new.learned ≡ None }
-        ensures follows { FollowsLive self.old to_poll (happened result) self.new }
+        ensures stays { StaysButLearned self.old self.new }
+        ensures follows { FollowsLive self.old to_poll (happened Happening.Nothing) self.new }
     {
-        self.mail.drop_coming(why);
-        self.see_nothing(None)
+        let _ = self.see_nothing(None);
+        Heard {
+            happening: Happening::Nothing,
+            dropped: Some(why),
+        }
     }
 
     /// Tells what the host says, or nothing where that is dropped. It is no stop.
     #[tactic(auto, using(crate::proofs::Shows::same_shown, crate::proofs::Shows::same_sources, crate::proofs::Shows::none_learned))]
-    fn see(&mut self, happening: Happening) -> Result<Happening, AllocError>
+    fn see(&mut self, happening: Happening) -> Result<Heard, AllocError>
         requires { IsNoStop happening }
-        ensures heard { IfOk result (λ h. h ≡ heard self.old.state happening) }
+        ensures heard { IfOk result (λ h. h ≡ heard_or_dropped (why_dropped self.old.state happening) happening) }
         ensures forgotten { OnOk result (self.new.learned ≡ None) }
-        ensures follows { IfOk result (λ h. FollowsLive self.old to_poll (happened h) self.new) }
-        ensures in_range { IfOk result (λ h. IsTrue (is_short h)) }
+        ensures stays { OnOk result (SameShown self.old self.new) }
+        ensures follows { IfOk result (λ h. FollowsLive self.old to_poll (happened h.happening) self.new) }
+        ensures in_range { IfOk result (λ h. IsTrue (is_short h.happening)) }
     {
         if let Some(why) = why_dropped(self.state, &happening) {
             return Ok(self.drop_it(why));
@@ -184,7 +226,10 @@ impl Live {
         self.state = next(self.state, &happening);
         self.learned = None;
         self.note(LiveLast::Polled(copy));
-        Ok(happening)
+        Ok(Heard {
+            happening,
+            dropped: None,
+        })
     }
 
     /// Tells a stop, and shows where, and whether more is told later; or nothing where that is dropped.
@@ -193,18 +238,17 @@ impl Live {
         alloc: Global,
         reason: Text,
         thread: i64,
-        mut shows: Recorded,
+        shows: Recorded,
         more: bool,
-    ) -> Result<Happening, AllocError>
-        ensures heard { IfOk result (λ h. HasFewSources shows self.old.base → h ≡ heard self.old.state (Happening.Stopped reason thread)) }
-        ensures dropped { IfOk result (λ h. ¬ HasFewSources shows self.old.base → h ≡ Happening.Nothing) }
+    ) -> Result<Heard, AllocError>
+        ensures heard { IfOk result (λ h. h ≡ heard_or_dropped (why_not_shown self.old.state self.old.base reason thread shows) (Happening.Stopped reason thread)) }
         ensures forgotten { OnOk result (self.new.learned ≡ None) }
-        ensures follows { IfOk result (λ h. FollowsLive self.old to_poll (happened h) self.new) }
-        ensures shows { IfOk result (λ h. h ≡ Happening.Stopped reason thread → ShowsFirst shows more self.new.here) }
-        ensures in_range { IfOk result (λ h. IsTrue (is_short h)) }
+        ensures stays { OnOk result (self.new.base ≡ self.old.base) }
+        ensures shows { OnOk result (why_not_shown self.old.state self.old.base reason thread shows ≡ None → ShowsFirst shows more self.new.here) }
+        ensures shown { OnOk result (why_not_shown self.old.state self.old.base reason thread shows ≢ None → self.new.here ≡ self.old.here) }
+        ensures follows { IfOk result (λ h. FollowsLive self.old to_poll (happened h.happening) self.new) }
+        ensures in_range { IfOk result (λ h. IsTrue (is_short h.happening)) }
     {
-        // Refused where it is started already.
-        let _ = shows.start(alloc);
         let happening = Happening::Stopped { reason, thread };
         if let Some(why) = why_dropped(self.state, &happening) {
             return Ok(self.drop_it(why));
@@ -215,13 +259,16 @@ impl Live {
         let copy = copied(&happening)?;
         self.state = State::Stopped;
         self.here = Some(Here {
-            moment: shows,
+            moment: started(alloc, shows),
             later: more,
             told: HolderMap::new(alloc),
         });
         self.learned = None;
         self.note(LiveLast::Polled(copy));
-        Ok(happening)
+        Ok(Heard {
+            happening,
+            dropped: None,
+        })
     }
 
     /// Puts sources behind those there are.
@@ -236,19 +283,19 @@ impl Live {
     }
 
     /// Tells nothing, and has more sources, unless they are dropped.
-    fn see_sources(&mut self, alloc: Global, more: Recorded) -> Result<Happening, AllocError>
-        ensures nothing { IfOk result (λ h. h ≡ Happening.Nothing) }
+    fn see_sources(&mut self, alloc: Global, more: Recorded) -> Result<Heard, AllocError>
+        ensures heard { IfOk result (λ h. h ≡ heard_or_dropped (why_no_room more self.old.base) Happening.Nothing) }
         ensures forgotten { OnOk result (self.new.learned ≡ None) }
-        ensures heard { OnOk result (length (shown_of self.old.base).sources + length (shown_of more).sources ≤ 65536 → self.new.base ≡ with_sources_of more self.old.base) }
-        ensures follows { IfOk result (λ h. FollowsLive self.old to_poll (happened h) self.new) }
+        ensures stays { OnOk result (self.new.here ≡ self.old.here) }
+        ensures sources { OnOk result (why_no_room more self.old.base ≡ None → self.new.base ≡ with_sources_of more self.old.base) }
+        ensures same { OnOk result (why_no_room more self.old.base ≢ None → self.new.base ≡ self.old.base) }
+        ensures follows { OnOk result (FollowsLive self.old to_poll (happened Happening.Nothing) self.new) }
     {
         if !has_room(&self.base, &more) {
             return Ok(self.drop_it(Dropped::TooManySources));
         }
         self.put_sources(alloc, more)?;
-        self.learned = None;
-        self.note(LiveLast::Polled(Happening::Nothing));
-        Ok(Happening::Nothing)
+        Ok(self.see_nothing(None))
     }
 
     /// Puts lines in place of those of a source.
@@ -264,10 +311,11 @@ impl Live {
             source: source.clone()?,
             lines: List::new(lines.to_vec(alloc)?),
         };
-        self.set.put(source.clone()?, lines.to_vec(alloc)?)?;
-        self.mail.ask(alloc, act)?;
-        self.note(LiveLast::Done(Asked::SetBreakpoints));
-        Ok(())
+        let HostAct::SetBreakpoints { source, lines } = &act else {
+            unreachable!()
+        };
+        self.set.put(source.clone()?, lines.as_slice().to_vec(alloc)?)?;
+        self.ask(alloc, act)
     }
 
     /// Puts variables of a holder before what the moment has.
@@ -286,11 +334,13 @@ impl Live {
         &mut self,
         holder: u64,
         variables: List<Variable>,
-    ) -> Result<Happening, AllocError>
-        ensures nothing { IfOk result (λ h. h ≡ Happening.Nothing) }
+    ) -> Result<Heard, AllocError>
+        ensures heard { IfOk result (λ h. h ≡ heard_or_dropped (why_untold (now_shown self.old.state self.old.here) holder) Happening.Nothing) }
         ensures forgotten { OnOk result (self.new.learned ≡ None) }
-        ensures heard { OnOk result (why_untold (now_shown self.old.state self.old.here) holder ≡ None → self.new.here ≡ with_told holder variables self.old.here) }
-        ensures follows { IfOk result (λ h. FollowsLive self.old to_poll (happened h) self.new) }
+        ensures stays { OnOk result (self.new.base ≡ self.old.base) }
+        ensures told { OnOk result (why_untold (now_shown self.old.state self.old.here) holder ≡ None → self.new.here ≡ with_told holder variables self.old.here) }
+        ensures same { OnOk result (why_untold (now_shown self.old.state self.old.here) holder ≢ None → self.new.here ≡ self.old.here) }
+        ensures follows { OnOk result (FollowsLive self.old to_poll (happened Happening.Nothing) self.new) }
     {
         if let Some(why) = self.why_untold(holder) {
             return Ok(self.drop_it(why));
@@ -298,7 +348,74 @@ impl Live {
         self.put_told(holder, variables.into_vec())?;
         self.learned = None;
         self.note(LiveLast::Polled(Happening::Nothing));
-        Ok(Happening::Nothing)
+        Ok(Heard {
+            happening: Happening::Nothing,
+            dropped: None,
+        })
+    }
+
+    /// Hears what the host says.
+    fn hear(&mut self, alloc: Global, coming: Coming) -> Result<Heard, AllocError>
+        ensures told { IfOk result (λ h. h.happening ≡ told_by coming self.old) }
+        ensures dropped { IfOk result (λ h. h.dropped ≡ why_unheard coming self.old) }
+        ensures learned { OnOk result (self.new.learned ≡ learned_by coming) }
+        ensures shows { OnOk result (ShowsBy coming (why_unheard coming self.old) self.old.here self.new.here) }
+        ensures sources { OnOk result (self.new.base ≡ sources_by coming (why_unheard coming self.old) self.old.base) }
+        ensures follows { IfOk result (λ h. FollowsLive self.old to_poll (happened h.happening) self.new) }
+        ensures in_range { IfOk result (λ h. IsTrue (is_short h.happening)) }
+    {
+        match coming {
+            Coming::Learned {
+                text,
+                value,
+                holder,
+            } => Ok(self.see_nothing(Some(Learned {
+                text,
+                value,
+                holder,
+            }))),
+            Coming::Variables { holder, variables } => self.see_variables(holder, variables),
+            Coming::Sources(more) => self.see_sources(alloc, more),
+            Coming::Output { category, text } => self.see(Happening::Output { category, text }),
+            Coming::Stopped {
+                reason,
+                thread,
+                shows,
+                later,
+            } => self.stop(alloc, reason, thread, shows, later),
+            Coming::Continued { thread } => self.see(Happening::Continued { thread }),
+            Coming::Exited { code } => self.see(Happening::Exited { code }),
+        }
+    }
+
+    /// Asks the host for an act that takes no more than that, and notes it.
+    fn ask(&mut self, alloc: Global, act: HostAct) -> Result<(), AllocError>
+        ensures asked { OnOk result (self.new ≡ noted (done_by act) self.old) }
+        ensures memory { OnErr result (self.new ≡ self.old) }
+    {
+        let asked = asked_of(&act);
+        self.mail.ask(alloc, act)?;
+        self.note(LiveLast::Done(asked));
+        Ok(())
+    }
+
+    /// The holder in which an act sets a value, and what it has then.
+    fn changed_by(&self, alloc: Global, act: &HostAct) -> Result<(u64, Vec<Variable>), AllocError>
+        requires { SetsShown act.now self.now }
+        ensures { IfOk result (λ changed. HasChanged act.now self.now changed.0 changed.1.items) }
+    {
+        let HostAct::Assign {
+            holder,
+            name,
+            value,
+        } = act else {
+            unreachable!()
+        };
+        let Some(variables) = self.children_at(*holder) else {
+            unreachable!()
+        };
+        let changed = variables::with_value(alloc, variables, name.as_str(), value.as_str())?;
+        Ok((*holder, changed))
     }
 
     /// Sets a variable to the value that the host told of a text.
@@ -316,16 +433,12 @@ impl Live {
         let Some(value) = self.value_of(text) else {
             unreachable!()
         };
-        let value = value.clone()?;
-        let Some(variables) = self.children_at(holder) else {
-            unreachable!()
-        };
-        let changed = variables::with_value(alloc, variables, name, value.as_str())?;
         let act = HostAct::Assign {
             holder,
             name: Text::copied(alloc, name)?,
-            value,
+            value: value.clone()?,
         };
+        let (holder, changed) = self.changed_by(alloc, &act)?;
         self.mail.ask(alloc, act)?;
         match self.put_told(holder, changed) {
             Ok(()) => {
@@ -351,9 +464,8 @@ impl Debuggee for Live {
     fn start(&mut self, alloc: Global) -> Result<(), DebuggeeFault> {
         match self.state {
             State::NotStarted => {
-                self.mail.ask(alloc, HostAct::Start)?;
+                self.ask(alloc, HostAct::Start)?;
                 self.state = State::Running;
-                self.note(LiveLast::Done(Asked::Start));
                 Ok(())
             }
             State::Running | State::Stopped | State::Gone => {
@@ -366,9 +478,8 @@ impl Debuggee for Live {
     fn resume(&mut self, alloc: Global, how: How, thread: i64) -> Result<(), DebuggeeFault> {
         match self.state {
             State::Stopped => {
-                self.mail.ask(alloc, HostAct::Resume { how, thread })?;
+                self.ask(alloc, HostAct::Resume { how, thread })?;
                 self.state = State::Running;
-                self.note(LiveLast::Done(Asked::Resume { how, thread }));
                 Ok(())
             }
             State::NotStarted | State::Running | State::Gone => {
@@ -381,8 +492,7 @@ impl Debuggee for Live {
     fn pause(&mut self, alloc: Global) -> Result<(), DebuggeeFault> {
         match self.state {
             State::Running => {
-                self.mail.ask(alloc, HostAct::Pause)?;
-                self.note(LiveLast::Done(Asked::Pause));
+                self.ask(alloc, HostAct::Pause)?;
                 Ok(())
             }
             State::NotStarted | State::Stopped | State::Gone => {
@@ -393,35 +503,14 @@ impl Debuggee for Live {
     }
 
     fn poll(&mut self, alloc: Global) -> Result<Happening, AllocError> {
-        match self.mail.take_coming() {
-            None => Ok(self.see_nothing(None)),
-            Some(
-                Coming::Learned {
-                    text,
-                    value,
-                    holder,
-                },
-            ) => Ok(self.see_nothing(Some(Learned {
-                text,
-                value,
-                holder,
-            }))),
-            Some(Coming::Variables { holder, variables }) => self.see_variables(holder, variables),
-            Some(Coming::Sources(more)) => self.see_sources(alloc, more),
-            Some(Coming::Output { category, text }) => {
-                self.see(Happening::Output { category, text })
-            }
-            Some(
-                Coming::Stopped {
-                    reason,
-                    thread,
-                    shows,
-                    later,
-                },
-            ) => self.stop(alloc, reason, thread, shows, later),
-            Some(Coming::Continued { thread }) => self.see(Happening::Continued { thread }),
-            Some(Coming::Exited { code }) => self.see(Happening::Exited { code }),
+        let heard = match self.mail.take_coming() {
+            None => self.see_nothing(None),
+            Some(coming) => self.hear(alloc, coming)?,
+        };
+        if let Some(why) = heard.dropped {
+            self.mail.drop_coming(why);
         }
+        Ok(heard.happening)
     }
 
     fn set_breakpoints(

@@ -41,6 +41,7 @@ by-call view refs (call.Scopes m) kind n is none = reason _ _ (lacks refs (refer
 by-call view refs (call.Variables a) kind n is none = reason _ _ (lacks refs (reference_named (call.Variables a)) kind n is none)
 by-call view refs (call.Evaluate a) kind n is none = reason _ _ (lacks refs (reference_named (call.Evaluate a)) kind n is none)
 by-call view refs (call.SetVariable a) kind n is none = reason _ _ (lacks refs (reference_named (call.SetVariable a)) kind n is none)
+by-call view refs (call.Completions a) kind n is none = reason _ _ (lacks refs (reference_named (call.Completions a)) kind n is none)
 by-call view refs _ kind n is none = cc
 
 refused : (view : Shown) (s : Session) (r : Entry) (kind : ReferenceKind) (n : ℕ) → AsksFor s r kind n → is_of_kind kind (target_of s.references n) ≡ false → refusal view s r ≡ Some StaleReference

@@ -13,7 +13,9 @@ use Rattle.serde_json.specs.View.{items_view}
 use Rattle.serde_json.specs.declared.value.Value.{Value}
 use Rattle.dap_json.specs.Steps.{◌>>=◌, ◌>>◌, Returns}
 use Rattle.dap_json.specs.Field.{if_passes, is_object}
-use Rattle.dap_command.specs.Numbers.{int_of, number_of}
+use Rattle.dap_json.specs.Numbers.{int_of, number_of}
+pub use Rattle.dap_json.specs.Property.{or_bad, in_shape}
+use Rattle.dap_json.specs.Property.{required, in_shape_or}
 use Rattle.dap_debuggee.specs.Laws.{is_code}
 use Rattle.dap_recording.specs.Recording.{line_count}
 use Rattle.dap_recording.specs.RecordingKey.{name_of}
@@ -71,26 +73,16 @@ GivesList result read = Returns (λ v. v.items) Says result read
 abbrev pub value_at : RecordingKey → Data → Option Data
 value_at k d = get (name_of k) d
 
-abbrev pub or_bad : {A : Type 0} → RecordingKey → Option A → Read A
-or_bad k None = Err k
-or_bad k (Some x) = Ok x
-
 -- the value at a key, which has to be there in this shape
 abbrev pub required_at : {A : Type 0} → (Data → Option A) → RecordingKey → Data → Read A
-required_at shape k d = or_bad k (option_and_then shape (value_at k d))
-
-abbrev pub in_shape : {A : Type 0} → (Data → Option A) → RecordingKey → Option Data → Read (Option A)
-in_shape shape k None = Ok None
-in_shape shape k (Some d) = or_bad k (option_map Some (shape d))
+required_at shape k d = required shape k (value_at k d)
 
 -- the value at a key, which may be absent, but has this shape where it is there
 abbrev pub optional_at : {A : Type 0} → (Data → Option A) → RecordingKey → Data → Read (Option A)
 optional_at shape k d = in_shape shape k (value_at k d)
 
 abbrev pub optional_or : {A : Type 0} → (Data → Option A) → A → RecordingKey → Data → Read A
-optional_or shape default k d = do
-  found ← optional_at shape k d
-  Ok (unwrap_or found default)
+optional_or shape default k d = in_shape_or shape default k (value_at k d)
 
 -- an element of the array at a key is an object
 abbrev pub element : RecordingKey → Data → Read (Unit {0})

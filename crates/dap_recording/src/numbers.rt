@@ -1,17 +1,17 @@
 //! The numbers of a recording: which JSON values are one, and how great it may be.
 ghost use Rattle.std.specs.Prelude.{◌≡◌};
 ghost use Rattle.serde_json.specs.View.{view};
-ghost use Rattle.dap_command.specs.Numbers.{int_of, number_of};
 ghost use Rattle.dap_recording.specs.Reading.{exit_of};
 ghost use Rattle.dap_recording.specs.Recording.{line_count as line_count_of};
 
+pub use dap_json::numbers::{int, number};
 use serde_json::Value;
 
 /// The greatest line, and the greatest place of a source.
-pub const MAX_NUMBER: u64 = 2147483647;
+pub const MAX_NUMBER: u64 = dap_json::numbers::MAX_NUMBER as u64;
 
 /// The greatest id of a thread.
-pub const MAX_ID: i64 = 9007199254740991;
+pub const MAX_ID: i64 = dap_json::numbers::MAX_INT;
 
 /// The most bytes of the reason of a moment's own stop.
 pub const MAX_REASON: usize = 64;
@@ -21,23 +21,6 @@ pub const MAX_WORDS: usize = 128;
 
 /// The most sources.
 pub const MAX_SOURCES: usize = 65536;
-
-/// The id of a thread, from `-MAX_ID` to [`MAX_ID`].
-pub fn int(value: &Value) -> Option<i64>
-    ensures { result ≡ int_of (view value.now) }
-{
-    value.as_i64().filter(|n| -MAX_ID <= *n && *n <= MAX_ID)
-}
-
-/// A line or the place of a source, from 0 to [`MAX_NUMBER`].
-pub fn number(value: &Value) -> Option<u32>
-    ensures { result ≡ number_of (view value.now) }
-{
-    match value.as_u64() {
-        Some(n) if n <= MAX_NUMBER => Some(n as u32),
-        _ => None,
-    }
-}
 
 /// The exit code of a run, from -2147483648 to 2147483647.
 pub fn status(value: &Value) -> Option<i32>

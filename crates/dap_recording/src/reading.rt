@@ -3,11 +3,13 @@ ghost use Rattle.std.specs.Prelude.{◌≡◌, [], false};
 ghost use Rattle.serde_json.specs.View.{view};
 ghost use Rattle.serde_json.specs.Find.{as_str, as_bool, as_array};
 ghost use Rattle.serde_json.specs.Data.{no_items};
-ghost use Rattle.dap_recording.specs.Reading.{Gives, GivesItems, element as element_of, exit_of, some_items as some_items_of, short_text as short_text_of, few_items as few_items_of, few_in, required_at, optional_at, optional_or};
+ghost use Rattle.dap_json.specs.Lent.{lent_data};
+ghost use Rattle.dap_recording.specs.Reading.{Gives, GivesItems, element as element_of, exit_of, some_items as some_items_of, short_text as short_text_of, few_items as few_items_of, few_in, value_at, required_at, optional_at, optional_or};
 
 use crate::numbers;
 use crate::texts::Texts;
 use dap_json::Text;
+use dap_json::property::Property;
 use serde_json::Value;
 use std::alloc::{AllocError, AllocFailed};
 
@@ -78,6 +80,16 @@ impl<T: Drop> From<AllocFailed<T>> for RecordingFault {
     }
 }
 
+impl From<RecordingKey> for RecordingFault {
+    ghost use Rattle.dap_recording.specs.declared.reading.RecordingFault.TheVariants.{BadKey};
+
+    ghost from_gives = { λ key e. e ≡ BadKey key };
+
+    fn from(key: RecordingKey) -> RecordingFault {
+        RecordingFault::BadKey { key }
+    }
+}
+
 impl RecordingKey {
     ghost use Rattle.dap_recording.specs.RecordingKey.{name_of};
 
@@ -127,6 +139,15 @@ pub(crate) fn element(value: &Value, key: RecordingKey) -> Result<(), RecordingF
     }
 }
 
+/// What stands at a key of an object.
+pub(crate) fn at<'v>(value: &'v Value, key: RecordingKey) -> Property<'v, RecordingKey>
+    ensures key { result.key ≡ key }
+    ensures found { lent_data result.found ≡ value_at key (view value.now) }
+{
+    let found = value.get(key.name());
+    Property { found, key }
+}
+
 pub(crate) fn text(
     texts: &mut Texts,
     value: &Value,
@@ -134,11 +155,7 @@ pub(crate) fn text(
 ) -> Result<Text, RecordingFault>
     ensures { Gives result (required_at as_str key (view value.now)) }
 {
-    let text = value
-        .get(key.name())
-        .and_then(Value::as_str)
-        .ok_or(bad(key))?;
-    Ok(texts.text(text)?)
+    Ok(texts.text(at(value, key).required_text()?)?)
 }
 
 pub(crate) fn optional_text(
@@ -148,12 +165,9 @@ pub(crate) fn optional_text(
 ) -> Result<Option<Text>, RecordingFault>
     ensures { Gives result (optional_at as_str key (view value.now)) }
 {
-    match value.get(key.name()) {
+    match at(value, key).optional_text()? {
         None => Ok(None),
-        Some(found) => {
-            let text = found.as_str().ok_or(bad(key))?;
-            Ok(Some(texts.text(text)?))
-        }
+        Some(text) => Ok(Some(texts.text(text)?)),
     }
 }
 
@@ -166,7 +180,7 @@ pub(crate) fn short_text(
 ) -> Result<Option<Text>, RecordingFault>
     ensures { Gives result (optional_at (short_text_of most) key (view value.now)) }
 {
-    match value.get(key.name()) {
+    match at(value, key).found {
         None => Ok(None),
         Some(found) => match found.as_str() {
             Some(text) if text.len() <= most => Ok(Some(texts.text(text)?)),
@@ -182,48 +196,32 @@ pub(crate) fn text_or_empty(
 ) -> Result<Text, RecordingFault>
     ensures { Gives result (optional_or as_str [] key (view value.now)) }
 {
-    let text = match value.get(key.name()) {
-        None => "",
-        Some(found) => found.as_str().ok_or(bad(key))?,
-    };
-    Ok(texts.text(text)?)
+    Ok(texts.text(at(value, key).optional_text()?.unwrap_or(""))?)
 }
 
 pub(crate) fn flag(value: &Value, key: RecordingKey) -> Result<bool, RecordingFault>
     ensures { Gives result (optional_or as_bool false key (view value.now)) }
 {
-    match value.get(key.name()) {
-        None => Ok(false),
-        Some(found) => found.as_bool().ok_or(bad(key)),
-    }
+    Ok(at(value, key).flag_or(false)?)
 }
 
 pub(crate) fn exit(value: &Value, key: RecordingKey) -> Result<i32, RecordingFault>
     ensures { Gives result (required_at exit_of key (view value.now)) }
 {
-    value
-        .get(key.name())
-        .and_then(numbers::status)
-        .ok_or(bad(key))
+    Ok(at(value, key).found.and_then(numbers::status).ok_or(key)?)
 }
 
 pub(crate) fn items(value: &Value, key: RecordingKey) -> Result<&[Value], RecordingFault>
     ensures { GivesItems result (required_at as_array key (view value.now)) }
 {
-    let Some(found) = value.get(key.name()) else {
-        return Err(bad(key));
-    };
-    match found.as_array() {
-        Some(items) => Ok(items),
-        None => Err(bad(key)),
-    }
+    Ok(at(value, key).required_items()?)
 }
 
 /// An absent array is empty.
 pub(crate) fn items_if_any(value: &Value, key: RecordingKey) -> Result<&[Value], RecordingFault>
     ensures { GivesItems result (optional_or as_array no_items key (view value.now)) }
 {
-    let Some(found) = value.get(key.name()) else {
+    let Some(found) = at(value, key).found else {
         return Ok(&[]);
     };
     match found.as_array() {

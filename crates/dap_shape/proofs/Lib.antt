@@ -3,3 +3,4 @@ pub mod ShapeLemmas
 pub mod SoundLemmas
 pub mod FewRows
 pub mod ReadLemmas
+mod BodyRows

@@ -242,7 +242,7 @@ module _ {D : Type 0} (split : EachStreamHasOneSplit) (moves : MovesInOrder) (sh
         first = a.first;
         plan = h.plan;
         taken = h.is;
-        step = record { seat = state_of after; session = h.step.session; reads_back = back; is = refl };
+        step = record { adapter = state_of after; session = h.step.session; reads_back = back; is = refl };
       }))) (record {
         adapter_used = k.adapter_used ++ take used piece;
         adapter_history = history;
@@ -374,7 +374,7 @@ module _ {D : Type 0} (split : EachStreamHasOneSplit) (moves : MovesInOrder) (sh
       subst Is (sym t.is) (adapter-steps old h.plan t.bytes t.after h.intake h.step t.limits g (by_turning (record {
         plan = h.plan;
         turned = h.is;
-        step = record { seat = state_of t.after; session = h.step.session; reads_back = h.step.reads_back k.adapter_used k.adapter_history k.adapter; is = refl };
+        step = record { adapter = state_of t.after; session = h.step.session; reads_back = h.step.reads_back k.adapter_used k.adapter_history k.adapter; is = refl };
       })))
 
   polls_once : (old new : ByteWorld D) → bytes.Polls follows old new → Is old → Is new
@@ -382,7 +382,7 @@ module _ {D : Type 0} (split : EachStreamHasOneSplit) (moves : MovesInOrder) (sh
       let k = g.matches in
       let h = t.saw in
       subst Is (sym t.is) (adapter-steps old (polls old.adapter.session) t.bytes t.after h.intake h.step t.limits g (by_polling (record {
-        step = record { seat = state_of t.after; session = h.step.session; reads_back = h.step.reads_back k.adapter_used k.adapter_history k.adapter; is = refl };
+        step = record { adapter = state_of t.after; session = h.step.session; reads_back = h.step.reads_back k.adapter_used k.adapter_history k.adapter; is = refl };
         within = h.within;
       })))
 

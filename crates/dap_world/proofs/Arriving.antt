@@ -35,8 +35,8 @@ module _ {D : Type 0} (limits : Settings) where
   by-client : (session : ClientSession) (ms : List Message) (w : World D) → AllArrive limits w → AllReadBack limits.body ms → AllArrive limits (client_said session ms w)
   by-client session ms w a h = record { up = all-append (ReadsBack limits.body) w.up ms a.up h; down = a.down; said = said-more limits.body w.said Client ms a.said h }
 
-  by-adapter : (seat : SessionState D) (ms : List Message) (w : World D) → AllArrive limits w → AllReadBack limits.body ms → AllArrive limits (adapter_said seat ms w)
-  by-adapter seat ms w a h = record { up = a.up; down = all-append (ReadsBack limits.body) w.down ms a.down h; said = said-more limits.body w.said Adapter ms a.said h }
+  by-adapter : (session_state : SessionState D) (ms : List Message) (w : World D) → AllArrive limits w → AllReadBack limits.body ms → AllArrive limits (adapter_said session_state ms w)
+  by-adapter session_state ms w a h = record { up = a.up; down = all-append (ReadsBack limits.body) w.down ms a.down h; said = said-more limits.body w.said Adapter ms a.said h }
 
   later-up : (w : World D) (m : Message) (later : List Message) → w.up ≡ m ∷ later → AllArrive limits w → AllArrive limits (record w { up = later })
   later-up w m later e a = let all = subst (λ (z : List Message). AllReadBack limits.body z) e a.up in record { up = all.1; down = a.down; said = a.said }
@@ -56,11 +56,11 @@ module _ {D : Type 0} (limits : Settings) where
   step-arrives shown follows old new (by_answering q terminal t) g a =
       subst (λ (w : World D). AllArrive limits w) (sym t.is) (by-client (after_terminal_response q old.client) (next_terminal_response old.client q terminal ∷ []) old a (at-client old (next_terminal_response old.client q terminal ∷ []) g (t.reads_back, tt)))
   step-arrives shown follows old new (by_coming_up t) g a =
-      subst (λ (w : World D). AllArrive limits w) (sym t.step.is) (by-adapter t.step.seat (written_by old.adapter.session t.step.session.made) (record old { up = t.later }) (later-up old t.message t.later t.first a) (at-adapter old (written_by old.adapter.session t.step.session.made) g t.step.reads_back))
+      subst (λ (w : World D). AllArrive limits w) (sym t.step.is) (by-adapter t.step.adapter (written_by old.adapter.session t.step.session.made) (record old { up = t.later }) (later-up old t.message t.later t.first a) (at-adapter old (written_by old.adapter.session t.step.session.made) g t.step.reads_back))
   step-arrives shown follows old new (by_coming_down t) g a =
       subst (λ (w : World D). AllArrive limits w) (sym t.is) (by-client t.made.after t.made.written (record old { down = t.later }) (later-down old t.message t.later t.first a) (at-client old t.made.written g t.reads_back))
-  step-arrives shown follows old new (by_turning t) g a = subst (λ (w : World D). AllArrive limits w) (sym t.step.is) (by-adapter t.step.seat (written_by old.adapter.session t.step.session.made) old a (at-adapter old (written_by old.adapter.session t.step.session.made) g t.step.reads_back))
-  step-arrives shown follows old new (by_polling t) g a = subst (λ (w : World D). AllArrive limits w) (sym t.step.is) (by-adapter t.step.seat (written_by old.adapter.session t.step.session.made) old a (at-adapter old (written_by old.adapter.session t.step.session.made) g t.step.reads_back))
+  step-arrives shown follows old new (by_turning t) g a = subst (λ (w : World D). AllArrive limits w) (sym t.step.is) (by-adapter t.step.adapter (written_by old.adapter.session t.step.session.made) old a (at-adapter old (written_by old.adapter.session t.step.session.made) g t.step.reads_back))
+  step-arrives shown follows old new (by_polling t) g a = subst (λ (w : World D). AllArrive limits w) (sym t.step.is) (by-adapter t.step.adapter (written_by old.adapter.session t.step.session.made) old a (at-adapter old (written_by old.adapter.session t.step.session.made) g t.step.reads_back))
 
 pub schedule-arrives : {D : Type 0} (laws : Laws) (shown : D → Shown) (follows : Goes D) (limits : Settings) (debuggee : D) (w : World D) → AreInRange limits → Schedule shown follows limits debuggee w → AllArrive limits w
 schedule-arrives laws shown follows limits debuggee _ r starts = record { up = tt; down = tt; said = tt }

@@ -1,5 +1,5 @@
 -- What stands holds from two fresh ends on, in every schedule.
-use Rattle.std.proofs.Common.{[], false, refl, arith}
+use Rattle.std.proofs.Common.{[], false, refl}
 use Rattle.dap_ends.proofs.Announcements.{announces}
 use Rattle.dap_ends.proofs.PairTranscripts.{writes}
 use Rattle.dap_frame.specs.Settings.{Settings, AreInRange}
@@ -7,7 +7,6 @@ use Rattle.dap_debuggee.specs.Shown.{Shown}
 use Rattle.dap_plan.specs.Carried.{Goes}
 use Rattle.dap_world.specs.World.{World, fresh_world, Step, by_sending, by_answering, by_coming_up, by_coming_down, by_turning, by_polling, Schedule, starts, goes}
 use Rattle.dap_world.proofs.ClientStepping.{send-stands, down-stands, answer-stands}
-use Rattle.dap_world.proofs.ReferencesSeen.{knows-none}
 use Rattle.dap_world.proofs.Standing.{Stands}
 use Rattle.dap_world.proofs.Stepping.{Laws, turn-stands, poll-stands, up-stands}
 
@@ -16,17 +15,12 @@ fresh-stands laws limits debuggee =
     record {
       client_limits = refl;
       adapter_limits = refl;
-      given = [];
       by = record { uses = λ q. []; wants = λ q. false };
-      knows = knows-none;
       writes = writes limits.requests limits.references [];
       announces = announces limits.requests limits.references [];
       up = tt;
       kept = tt;
-      asked = tt;
       down = tt;
-      restart = refl;
-      resumes = record { low = omega arith; none = tt };
       client_within = laws.client_stays.fresh limits;
       adapter_within = laws.adapter_stays.fresh limits;
       quiet = λ e. refl;

@@ -21,7 +21,7 @@ module _ {D : Type 0} (shown : D → Shown) (follows others : Goes D) (carries :
   session plan old new s = record { made = s.made; carried = carried plan old.debuggee new.debuggee s.made s.carried; after = s.after }
 
   abbrev adapter : (plan : Plan) (old left new : World D) → AdapterStep follows plan old left new → AdapterStep others plan old left new
-  adapter plan old left new a = record { seat = a.seat; session = session plan old.adapter a.seat a.session; reads_back = a.reads_back; is = a.is }
+  adapter plan old left new a = record { adapter = a.adapter; session = session plan old.adapter a.adapter a.session; reads_back = a.reads_back; is = a.is }
 
   step : (old new : World D) → Step shown follows old new → Step shown others old new
   step old new (by_sending call s) = by_sending call s

@@ -37,6 +37,7 @@ names-live refs (call.Scopes number) h = named-live refs Frame number h
 names-live refs (call.Variables a) h = named-live refs Holder a.variables_reference h
 names-live refs (call.Evaluate a) h = frame-live refs a.frame_id h
 names-live refs (call.SetVariable a) h = named-live refs Holder a.variables_reference h
+names-live refs (call.Completions a) h = frame-live refs a.frame_id h
 names-live refs _ h = refl
 
 -- ---- no other test says so

@@ -6,7 +6,7 @@ use Rattle.std.proofs.lemmas.List.{append-nil, map-append}
 use Rattle.dap_ends.specs.Messages.{Ask, code}
 use Rattle.dap_ends.specs.Messages as small
 use Rattle.dap_ends.specs.AdapterModel.{AdapterModel, AdapterPhase, Made as SmallMade}
-use Rattle.dap_ends.specs.AdapterModel as desk
+use Rattle.dap_ends.specs.AdapterModel as model
 use Rattle.dap_ends.specs.References.{Ref, Table, is_inspect, given_by as small_given, all_in, references_from, live_refs, inspection_succeeds, table_turned, table_after}
 use Rattle.dap_ends.specs.Pair.{NumberedNote, WrittenNote, Pair, numbered_notes, notes_written_by, pair_after_adapter}
 use Rattle.dap_envelope.specs.declared.message.Message.{Message}
@@ -18,7 +18,8 @@ use Rattle.dap_plan.specs.Plan.{Made, written_by}
 use Rattle.dap_outbox.specs.Draft.{success, failure, Draft, reply, emit, ask, message_of, numbered_messages, requests_in}
 use Rattle.dap_plan.specs.Session.{Session, own_requests}
 use Rattle.dap_plan.specs.SessionState.{SessionState}
-use Rattle.dap_world.specs.Projection.{note_seen, notes_seen, written_seen, adapter_model_of, own_seen, references_seen, table_of, ByNumber, pair_of}
+use Rattle.dap_client.specs.Projection.{references_seen}
+use Rattle.dap_world.specs.Projection.{note_seen, notes_seen, written_seen, adapter_model_of, own_seen, table_of, ByNumber, pair_of}
 use Rattle.dap_world.specs.World.{World, Said, said_by, adapter_said}
 use Rattle.dap_world.proofs.Answered.{IsHarmless, AllHarmless, AllGive}
 use Rattle.dap_world.proofs.KeptSeen.{told, all_told}
@@ -76,14 +77,14 @@ inspection-class : (c : small.Command) → (code c == 10) ≡ true → c ≡ sma
 inspection-class small.Inspect h = refl
 inspection-class _ h = cc
 
-tried-stopped : (p : AdapterPhase) → (desk.answer_of p small.Inspect ≡ desk.Fails → ⊥) → p ≡ desk.AdapterStopped
-tried-stopped desk.AdapterStopped n = refl
-tried-stopped desk.AdapterFresh n = absurd (n refl)
+tried-stopped : (p : AdapterPhase) → (model.answer_of p small.Inspect ≡ model.Fails → ⊥) → p ≡ model.AdapterStopped
+tried-stopped model.AdapterStopped n = refl
+tried-stopped model.AdapterFresh n = absurd (n refl)
 tried-stopped _ n = absurd (n refl)
 
 -- what is live then, and what is named
-stopped-grows : (p : AdapterPhase) (c : small.Command) (t u : Table) (more : List Bool) → p ≡ desk.AdapterStopped → c ≡ small.Inspect → u ≡ table_turned p c true t more → u ≡ (let z : Table = record { base = t.base; live = t.live ++ more } in z)
-stopped-grows p c t u more e f h = h ∙ (ap (λ (q : AdapterPhase). table_turned q c true t more) e ∙ ap (λ (d : small.Command). table_turned desk.AdapterStopped d true t more) f)
+stopped-grows : (p : AdapterPhase) (c : small.Command) (t u : Table) (more : List Bool) → p ≡ model.AdapterStopped → c ≡ small.Inspect → u ≡ table_turned p c true t more → u ≡ (let z : Table = record { base = t.base; live = t.live ++ more } in z)
+stopped-grows p c t u more e f h = h ∙ (ap (λ (q : AdapterPhase). table_turned q c true t more) e ∙ ap (λ (d : small.Command). table_turned model.AdapterStopped d true t more) f)
 
 all-three : (ok b c : Bool) → (ok ≡ true → b ≡ true) → (ok ≡ true → c ≡ true) → (ok && (b && c)) ≡ ok
 all-three true b c f g = rw (f refl, g refl) refl
@@ -97,13 +98,13 @@ below-next : (m n : ℕ) → m ≤ n → nat_lt m (n + 1) ≡ true
 below-next m n h = grind (arith, nat_tests)
 
 -- where as many are live as there is room for at most, and all that is named is live
-pub inspection-so : (r : ℕ) (p : AdapterPhase) (t u : Table) (more : List Bool) (named : List Ref) (o : Option Ask) (ok : Bool) → ((a : Ask) → o ≡ Some a → ok ≡ true → desk.answer_of p a.command ≡ desk.Fails → ⊥) → u ≡ table_after o p ok t more → length u.live ≤ r → all_in (live_refs u) named ≡ true
+pub inspection-so : (r : ℕ) (p : AdapterPhase) (t u : Table) (more : List Bool) (named : List Ref) (o : Option Ask) (ok : Bool) → ((a : Ask) → o ≡ Some a → ok ≡ true → model.answer_of p a.command ≡ model.Fails → ⊥) → u ≡ table_after o p ok t more → length u.live ≤ r → all_in (live_refs u) named ≡ true
     → inspection_succeeds r t more named o ok ≡ ok
 inspection-so r p t u more named None ok fair e few live = refl
 inspection-so r p t u more named (Some a) ok fair e few live =
     let grown : is_inspect a ≡ true → ok ≡ true → u ≡ (let z : Table = record { base = t.base; live = t.live ++ more } in z) = λ i y.
     let class : a.command ≡ small.Inspect = inspection-class a.command i in
-    let phase : p ≡ desk.AdapterStopped = tried-stopped p (subst (λ (c : small.Command). desk.answer_of p c ≡ desk.Fails → ⊥) class (fair a refl y)) in
+    let phase : p ≡ model.AdapterStopped = tried-stopped p (subst (λ (c : small.Command). model.answer_of p c ≡ model.Fails → ⊥) class (fair a refl y)) in
     stopped-grows p a.command t u more phase class (e ∙ ap (λ (b : Bool). table_turned p a.command b t more) y) in
     inspection-if (is_inspect a) ok (nat_lt (length (t.live ++ more)) (r + 1)) (all_in (references_from t.base (t.live ++ more)) named)
     (λ i y. subst (λ (z : Table). nat_lt (length z.live) (r + 1) ≡ true) (grown i y) (below-next (length u.live) r few))
@@ -116,7 +117,7 @@ abbrev pub world_made : {D : Type 0} → World D → List Message → Made → D
 world_made {D} w ups made v = let s : SessionState D = record { session = made.after; debuggee = v } in adapter_said s (written_by w.adapter.session made) (record w { up = ups })
 
 abbrev pub with_adapter : Pair → AdapterModel → Table → Bool → ℕ → List Ask → List NumberedNote → List WrittenNote → Pair
-with_adapter p d r t n qs downs all = record p { desk = d; table = r; terminal = t; used = n; asked = qs; down = downs; written = all }
+with_adapter p d r t n qs downs all = record p { adapter = d; table = r; terminal = t; used = n; asked = qs; down = downs; written = all }
 
 pub same-adapter : (p : Pair) (d e : AdapterModel) (r v : Table) (t u : Bool) (m n : ℕ) (qs rs : List Ask) (xs ys : List NumberedNote) (zs ws : List WrittenNote) → d ≡ e → r ≡ v → t ≡ u → m ≡ n → qs ≡ rs → xs ≡ ys → zs ≡ ws
     → with_adapter p d r t m qs xs zs ≡ with_adapter p e v u n rs ys ws
@@ -134,16 +135,16 @@ told-length [] = refl
 told-length (d ∷ ds) = let ih = told-length ds in omega arith
 
 -- is what the pair's makes, with this table and these references given
-pub made-pair : {D : Type 0} (w : World D) (known : List Ref) (by : ByNumber) (ups : List Message) (made : Made) (v : D) (x : SmallMade) (named : List Ref) (table : Table) (terminal : Bool) (qs : List Ask)
-    → adapter_model_of made.after ≡ x.desk → all_told made.drafts ≡ x.outs → AllHarmless made.drafts → AllGive named made.drafts → table_of made.after.references ≡ table → made.after.used ≡ w.adapter.session.used + length made.drafts
+pub made-pair : {D : Type 0} (w : World D) (by : ByNumber) (ups : List Message) (made : Made) (v : D) (x : SmallMade) (named : List Ref) (table : Table) (terminal : Bool) (qs : List Ask)
+    → adapter_model_of made.after ≡ x.adapter → all_told made.drafts ≡ x.outs → AllHarmless made.drafts → AllGive named made.drafts → table_of made.after.references ≡ table → made.after.used ≡ w.adapter.session.used + length made.drafts
     → terminal ≡ made.after.options.supports_run_in_terminal_request → qs ≡ own_seen (own_requests made.after.asked)
-    → pair_after_adapter (record (pair_of w known by) { up = notes_seen ups; terminal = terminal; asked = qs }) x named table ≡ pair_of (world_made w ups made v) known by
-made-pair w known by ups made v x named table terminal qs e f h given r used t q =
+    → pair_after_adapter (record (pair_of w by) { up = notes_seen ups; terminal = terminal; asked = qs }) x named table ≡ pair_of (world_made w ups made v) by
+made-pair w by ups made v x named table terminal qs e f h given r used t q =
     let s : Session = w.adapter.session in
     let many = told-length made.drafts in
     let outs : numbered_notes s.used named x.outs ≡ notes_seen (numbered_messages s.used made.drafts) = ap (numbered_notes s.used named) (sym f) ∙ sym (numbered-seen s.used made.drafts named h given) in
     let count : s.used + length x.outs ≡ made.after.used = let same = ap length f in omega (arith, same, many, used) in
-    same-adapter (record (pair_of w known by) { up = notes_seen ups }) x.desk (adapter_model_of made.after) table (table_of made.after.references) terminal made.after.options.supports_run_in_terminal_request (s.used + length x.outs) made.after.used qs (own_seen (own_requests made.after.asked))
+    same-adapter (record (pair_of w by) { up = notes_seen ups }) x.adapter (adapter_model_of made.after) table (table_of made.after.references) terminal made.after.options.supports_run_in_terminal_request (s.used + length x.outs) made.after.used qs (own_seen (own_requests made.after.asked))
     (notes_seen w.down ++ numbered_notes s.used named x.outs) (notes_seen (w.down ++ numbered_messages s.used made.drafts))
     (written_seen w.said ++ notes_written_by false (numbered_notes s.used named x.outs)) (written_seen (w.said ++ said_by Adapter (numbered_messages s.used made.drafts)))
     (sym e) (sym r) t count q

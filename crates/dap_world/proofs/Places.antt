@@ -296,31 +296,31 @@ module _ {D : Type 0} (laws : Laws) (shown : D → Shown) (follows : Goes D) (li
   up-sent old new t st g =
       let s : Session = old.adapter.session in
       let made : Made = t.step.session.made in
-      let v = t.step.seat.debuggee in
+      let v = t.step.adapter.debuggee in
       let came : List Asked = option_to_list (request_as t.message.seq t.message.kind) in
       let can : CanMake t.plan made = can_make follows t.plan old.adapter.debuggee v made t.step.session.carried in
       let well : GoesWell s came (response_as t.message.kind) made = laws.goes_well.take s t.message t.plan made (orderly s st.adapter_within) t.taken can in
       let asked = requests-first (IsSent g.by old.client.used) (request_as t.message.seq t.message.kind) (requests_among t.later) (subst (λ (z : List Message). All (IsSent g.by old.client.used) (requests_among z)) t.first g.up) in
       let answered = responses-first IsOwnResponse (response_as t.message.kind) (responses_among t.later) (subst (λ (z : List Message). All IsOwnResponse (responses_among z)) t.first g.own_up) in
-      subst (λ (x : World D). Sent x) (sym (written follows old new t.later t.plan t.step.seat t.step.session t.step.is)) (made-sent old t.later came (response_as t.message.kind) made v g well asked.0 asked.1 answered.1)
+      subst (λ (x : World D). Sent x) (sym (written follows old new t.later t.plan t.step.adapter t.step.session t.step.is)) (made-sent old t.later came (response_as t.message.kind) made v g well asked.0 asked.1 answered.1)
 
   turn-sent : (old new : World D) → Turns shown follows old new → Stands limits old → Sent old → Sent new
   turn-sent old new t st g =
       let s : Session = old.adapter.session in
       let made : Made = t.step.session.made in
-      let v = t.step.seat.debuggee in
+      let v = t.step.adapter.debuggee in
       let can : CanMake t.plan made = can_make follows t.plan old.adapter.debuggee v made t.step.session.carried in
       let well : GoesWell s [] None made = laws.goes_well.turn (shown old.adapter.debuggee) s t.plan made (orderly s st.adapter_within) t.turned can in
-      subst (λ (x : World D). Sent x) (sym (written follows old new old.up t.plan t.step.seat t.step.session t.step.is)) (made-sent old old.up [] None made v g well tt g.up g.own_up)
+      subst (λ (x : World D). Sent x) (sym (written follows old new old.up t.plan t.step.adapter t.step.session t.step.is)) (made-sent old old.up [] None made v g well tt g.up g.own_up)
 
   poll-sent : (old new : World D) → Polls follows old new → Stands limits old → Sent old → Sent new
   poll-sent old new t st g =
       let s : Session = old.adapter.session in
       let made : Made = t.step.session.made in
-      let v = t.step.seat.debuggee in
+      let v = t.step.adapter.debuggee in
       let can : CanMake (polls s) made = can_make follows (polls s) old.adapter.debuggee v made t.step.session.carried in
       let well : GoesWell s [] None made = laws.goes_well.poll s made can in
-      subst (λ (x : World D). Sent x) (sym (written follows old new old.up (polls s) t.step.seat t.step.session t.step.is)) (made-sent old old.up [] None made v g well tt g.up g.own_up)
+      subst (λ (x : World D). Sent x) (sym (written follows old new old.up (polls s) t.step.adapter t.step.session t.step.is)) (made-sent old old.up [] None made v g well tt g.up g.own_up)
 
   down-sent : (old new : World D) → ComesDown old new → Stands limits old → Sent old → Sent new
   down-sent old new t st g =
@@ -329,7 +329,7 @@ module _ {D : Type 0} (laws : Laws) (shown : D → Shown) (follows : Goes D) (li
       let m : Message = t.message in
       let told = down-first limits old m t.later t.first st in
       let comes = down-comes limits old m t.later r t.first st in
-      let leaves = kind-leaves m.seq m.kind s made told.0 comes (st.asked, st.restart, st.resumes) t.taken in
+      let leaves = kind-leaves laws m.seq m.kind s made told.0 comes st.client_within t.taken in
       let took = took m.seq m.kind s made told.0 comes t.taken in
       let asked = requests-first IsOwn (request_as m.seq m.kind) (requests_among t.later) (subst (λ (z : List Message). All IsOwn (requests_among z)) t.first g.own_down) in
       let answered = responses-first (IsResponse g.by s.used) (response_as m.kind) (responses_among t.later) (subst (λ (z : List Message). All (IsResponse g.by s.used) (responses_among z)) t.first g.down) in

@@ -62,11 +62,11 @@ answered q terminal w = client_said (after_terminal_response q w.client) (next_t
 abbrev pub out_of : {D : Type 0} → Replies D → Plan → World D → List Message
 out_of replies plan w = written_by w.adapter.session (made_by replies plan w.adapter.debuggee)
 
-abbrev pub seat_after : {D : Type 0} → Replies D → Plan → World D → SessionState D
-seat_after replies plan w = record { session = (made_by replies plan w.adapter.debuggee).after; debuggee = left_by replies plan w.adapter.debuggee }
+abbrev pub state_after : {D : Type 0} → Replies D → Plan → World D → SessionState D
+state_after replies plan w = record { session = (made_by replies plan w.adapter.debuggee).after; debuggee = left_by replies plan w.adapter.debuggee }
 
 abbrev pub spoke : {D : Type 0} → Replies D → Plan → World D → World D
-spoke replies plan w = adapter_said (seat_after replies plan w) (out_of replies plan w) w
+spoke replies plan w = adapter_said (state_after replies plan w) (out_of replies plan w) w
 
 abbrev pub planned : {D : Type 0} → Replies D → Result Plan AdapterFault → World D → World D
 planned replies (Ok plan) w = spoke replies plan w
@@ -129,9 +129,9 @@ module _ {D : Type 0} (shown : D → Shown) (follows : Goes D) (replies : Replie
       let p = both_read limits.body w.said Client (next_terminal_response w.client q terminal ∷ []) h in
       goes w (answered q terminal w) (s p.0) (by_answering q terminal (record { plain = plain; free = free; reads_back = subst (λ (z : Settings). ReadsBack z.body (next_terminal_response w.client q terminal)) (sym same) p.1.0; is = refl }))
 
-  abbrev step_by : (plan : Plan) (w left : World D) → GoesOn plan w.adapter.debuggee → AllReadBack w.adapter.session.limits.body (out_of replies plan w) → AdapterStep follows plan w left (adapter_said (seat_after replies plan w) (out_of replies plan w) left)
+  abbrev step_by : (plan : Plan) (w left : World D) → GoesOn plan w.adapter.debuggee → AllReadBack w.adapter.session.limits.body (out_of replies plan w) → AdapterStep follows plan w left (adapter_said (state_after replies plan w) (out_of replies plan w) left)
   step_by plan w left on back = record {
-    seat = seat_after replies plan w;
+    adapter = state_after replies plan w;
     session = record { made = made_by replies plan w.adapter.debuggee; carried = on; after = refl };
     reads_back = back;
     is = refl;
@@ -171,7 +171,7 @@ module _ {D : Type 0} (shown : D → Shown) (follows : Goes D) (replies : Replie
         step = step_by plan w w on (subst (λ (z : Settings). AllReadBack z.body (out_of replies plan w)) (sym same) p.1);
       })))
 
-  pub polls_once_by : (w : World D) → GoesOn (polls w.adapter.session) w.adapter.debuggee → (seat_after replies (polls w.adapter.session) w).session.used ≤ w.adapter.session.limits.seq → w.adapter.session.limits ≡ limits → LeadsBy w → LeadsBy (polled replies w)
+  pub polls_once_by : (w : World D) → GoesOn (polls w.adapter.session) w.adapter.debuggee → (state_after replies (polls w.adapter.session) w).session.used ≤ w.adapter.session.limits.seq → w.adapter.session.limits ≡ limits → LeadsBy w → LeadsBy (polled replies w)
   polls_once_by w on within same s = λ h.
       let plan = polls w.adapter.session in
       let p = both_read limits.body w.said Adapter (out_of replies plan w) h in
@@ -187,7 +187,7 @@ module _ {D : Type 0} (shown : D → Shown) (follows : Goes D) (replies : Replie
     pub comes-up : (w : World D) (m : Message) (later : List Message) (plan : Plan) → w.up ≡ m ∷ later → takes m w.adapter.session ≡ Ok plan → may plan w.adapter.debuggee ≡ true → w.adapter.session.limits ≡ limits → LeadsBy w → LeadsBy (up replies w)
     pub comes-down : (w : World D) (m : Message) (later : List Message) (made : ClientMade) → w.down ≡ m ∷ later → client_takes m w.client ≡ Ok made → w.client.limits ≡ limits → LeadsBy w → LeadsBy (down w)
     pub turns-once : (w : World D) (plan : Plan) → turns (shown w.adapter.debuggee) w.adapter.session ≡ Ok (Some plan) → may plan w.adapter.debuggee ≡ true → w.adapter.session.limits ≡ limits → LeadsBy w → LeadsBy (turned shown replies w)
-    pub polls-once : (w : World D) → may (polls w.adapter.session) w.adapter.debuggee ≡ true → (seat_after replies (polls w.adapter.session) w).session.used ≤ w.adapter.session.limits.seq → w.adapter.session.limits ≡ limits → LeadsBy w → LeadsBy (polled replies w)
+    pub polls-once : (w : World D) → may (polls w.adapter.session) w.adapter.debuggee ≡ true → (state_after replies (polls w.adapter.session) w).session.used ≤ w.adapter.session.limits.seq → w.adapter.session.limits ≡ limits → LeadsBy w → LeadsBy (polled replies w)
 
   pub steps_where : (may : Plan → D → Bool) → ((plan : Plan) (v : D) → may plan v ≡ true → GoesOn plan v) → Steps may
   steps_where may on = record {

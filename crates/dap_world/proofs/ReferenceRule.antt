@@ -36,12 +36,14 @@ use Rattle.dap_check.specs.declared.line.Side.{Side}
 use Rattle.dap_check.specs.declared.line.Side.TheVariants.{Client, Adapter}
 use Rattle.dap_client.specs.References.{references_used_by, optional_frame}
 use Rattle.dap_client.specs.Changes.{signal_named}
-use Rattle.dap_world.specs.MessageReferences.{references_used_by_read, references_used_in, references_given_if, references_of_kind}
-use Rattle.dap_world.specs.Projection.{reference_seen, references_seen, class_if, ask_of, kind_if, kind_seen, is_client, written_seen}
+use Rattle.dap_client.specs.Projection.{reference_seen, references_seen, class_if, ask_of, kind_if, references_given_if}
+use Rattle.dap_world.specs.MessageReferences.{references_used_by_read, references_used_in, references_of_kind}
+use Rattle.dap_world.specs.Projection.{kind_seen, is_client, written_seen}
 use Rattle.dap_world.specs.Transcripts.{said_of}
-use Rattle.dap_world.proofs.ClientSeen.{named-back}
+use Rattle.dap_client.proofs.RequestLemmas.{named-back}
 use Rattle.dap_world.proofs.GateStepping.{IsWritten}
-use Rattle.dap_world.proofs.ReferencesSeen.{has-member, seen-self}
+use Rattle.dap_client.proofs.ReferenceLemmas.{has-member}
+use Rattle.dap_world.proofs.ReferencesSeen.{seen-self}
 use Rattle.dap_world.proofs.RulesSeen.{is-false, named-so}
 use Rattle.dap_world.proofs.Booleans.{from-or-false, or-either, or-true}
 

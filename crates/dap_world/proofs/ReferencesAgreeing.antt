@@ -1,12 +1,11 @@
 -- What holds of references in every schedule in which a stop lasts: what stands there is what is said of each world.
-use Rattle.std.proofs.Common.{None, refl, ◌≡◌, ℕ, ◌<◌, ◌≤◌, List, [], ◌∷◌, ◌++◌, Bool, false, Result, Ok, Err, sym, ap, ◌∙◌, subst, arith}
+use Rattle.std.proofs.Common.{None, refl, ◌≡◌, ℕ, ◌<◌, ◌≤◌, List, [], ◌∷◌, ◌++◌, length, Bool, false, Result, Ok, Err, sym, ap, ◌∙◌, subst, inl, inr, arith}
 use Rattle.std.specs.List.{AllByRecursion}
-use Rattle.std.specs.Set.{distinct_count}
 use Rattle.dap_ends.specs.AdapterModel.{asks as small_asks}
 use Rattle.dap_ends.specs.Laws.{NamesLive, KeepsLimit}
 use Rattle.dap_ends.specs.Messages.{Ask, requests_in}
 use Rattle.dap_ends.specs.Pair.{Pair, client_world, client_dialogue, reports_down, requests_up}
-use Rattle.dap_ends.specs.References.{RefWorld, IsWithin, same_ref, live_refs, AsksKnown}
+use Rattle.dap_ends.specs.References.{RefWorld, IsWithin, given_with, live_refs, AsksKnown}
 use Rattle.dap_ends.proofs.Keeps.{limit-next}
 use Rattle.dap_ends.proofs.RefsAgrees.{all-live as all-names-live}
 use Rattle.dap_frame.specs.Settings.{Settings, AreInRange}
@@ -32,14 +31,14 @@ use Rattle.dap_debuggee.specs.Shown.{Shown}
 use Rattle.dap_plan.specs.Carried.{Goes}
 use Rattle.dap_query.specs.References.{AreLive}
 use Rattle.dap_plan.specs.StateLaws.{EachStepKeepsState}
-use Rattle.dap_world.specs.MessageReferences.{references_used_by_request, references_used_by_kind}
-use Rattle.dap_world.specs.Projection.{notes_seen, all_kept, references_seen, table_of, pair_of, written_seen}
+use Rattle.dap_client.specs.Projection.{references_seen, eyes_of}
+use Rattle.dap_world.specs.MessageReferences.{references_used_by_request, references_used_by_kind, references_of_kind}
+use Rattle.dap_world.specs.Projection.{message_seen, notes_seen, all_kept, table_of, pair_of, written_seen}
 use Rattle.dap_world.specs.References.{LastingStops, ReferencesAgreeWhileStopsLast, EachTranscriptIsLegalWhileStopsLast}
 use Rattle.dap_world.specs.Transcripts.{said_of, Keeps, KeepsRules}
 use Rattle.dap_world.specs.World.{World, Said}
 use Rattle.dap_world.proofs.Agreeing.{down-fault}
-use Rattle.dap_world.proofs.ClientReferences.{MeetsLimit, client-limit-seen}
-use Rattle.dap_world.proofs.ClientStepping.{given_then, down-first, down-comes, request-kept}
+use Rattle.dap_world.proofs.ClientStepping.{down-first, down-comes, request-kept}
 use Rattle.dap_world.proofs.Legality.{each-transcript-keeps-rules}
 use Rattle.dap_world.proofs.GateStepping.{GateAt, AllGated, gate-at, schedule-gated}
 use Rattle.dap_world.proofs.NeverStale.{never-stale}
@@ -64,7 +63,7 @@ module _ {D : Type 0} (limits : Settings) (w : World D) (g : Stands limits w) wh
   refs = w.adapter.session.references
 
   abbrev seen : RefWorld
-  seen = client_world (pair_of w g.given g.by)
+  seen = client_world (pair_of w g.by)
 
   used-live : (e : Entry) → g.by.uses e.seq ≡ references_seen (references_used_by_request e) → IsWithin (g.by.uses e.seq) (live_refs (table_of refs)) → AreLive refs (references_used_by_request e)
   used-live e named h = are-live refs (references_used_by_request e) (subst (λ (xs : _). IsWithin xs (live_refs (table_of refs))) named h)
@@ -93,16 +92,10 @@ no-more : (m n : ℕ) → m ≤ n → n < m → ⊥
 no-more m n h k = absurd (let z : n < n = omega (arith, h, k) in omega (arith, z))
 
 module _ {D : Type 0} (laws : Laws) (shown : D → Shown) (limits : Settings) (debuggee : D) (w : World D) (g : StandsStill shown limits debuggee w) where
-  meets : MeetsLimit w.client
-  meets = record { resumes = g.stands.resumes; distinct = g.stands.client_within.apart; few = g.stands.client_within.known }
-
-  next-few : (m : Message) (later : List Message) → w.down ≡ m ∷ later → KeepsLimit limits.references (client_world (pair_of w g.stands.given g.stands.by)) (reports_down (notes_seen (m ∷ later)))
+  next-few : (m : Message) (later : List Message) → w.down ≡ m ∷ later → KeepsLimit limits.references (client_world (pair_of w g.stands.by)) (reports_down (notes_seen (m ∷ later)))
   next-few m later e =
-      subst (λ (ms : List Message). KeepsLimit limits.references (client_world (pair_of w g.stands.given g.stands.by)) (reports_down (notes_seen ms))) e
-      (limit-next limits.requests limits.references (client_world (pair_of w g.stands.given g.stands.by)) g.keeps.refs)
-
-  over : (m : Message) → distinct_count same_ref (given_then w g.stands.given m) ≤ limits.references → w.client.limits.references < distinct_count same_ref (given_then w g.stands.given m) → ⊥
-  over m few more = no-more (distinct_count same_ref (given_then w g.stands.given m)) w.client.limits.references (subst (λ (l : Settings). distinct_count same_ref (given_then w g.stands.given m) ≤ l.references) (sym g.stands.client_limits) few) more
+      subst (λ (ms : List Message). KeepsLimit limits.references (client_world (pair_of w g.stands.by)) (reports_down (notes_seen ms))) e
+      (limit-next limits.requests limits.references (client_world (pair_of w g.stands.by)) g.keeps.refs)
 
   client-fault : AreInRange limits → (seq : ℕ) (kind : Kind) (later : List Message) (f : ClientFault) → w.down ≡ (let m : Message = record { seq = seq; kind = kind } in m) ∷ later → client_takes (record { seq = seq; kind = kind }) w.client ≡ Err f → ⊥
   client-fault r seq (Request name arguments) later f e t =
@@ -113,11 +106,13 @@ module _ {D : Type 0} (laws : Laws) (shown : D → Shown) (limits : Settings) (d
   client-fault r seq (Response q ok name message body) later f e t =
       let m : Message = record { seq = seq; kind = Response q ok name message body } in
       let full : f ≡ ReferenceLimit = down-fault laws limits w seq m.kind later f r g.stands e t in
-      over m (next-few m later e) (client-limit-seen laws.client m w.client g.stands.given tt meets g.stands.asked g.stands.knows (t ∙ ap (λ (x : ClientFault). let y : Result ClientMade ClientFault = Err x in y) full))
-  client-fault r seq (Event name body) later f e t =
-      let m : Message = record { seq = seq; kind = Event name body } in
-      let full : f ≡ ReferenceLimit = down-fault laws limits w seq m.kind later f r g.stands e t in
-      over m (next-few m later e) (client-limit-seen laws.client m w.client g.stands.given tt meets g.stands.asked g.stands.knows (t ∙ ap (λ (x : ClientFault). let y : Result ClientMade ClientFault = Err x in y) full))
+      let few : length (given_with (eyes_of w.client) (message_seen m) (references_seen (references_of_kind m.kind))) ≤ limits.references = next-few m later e in
+      let room = ap (λ (l : Settings). l.references) g.stands.client_limits in
+      elim (laws.client.refused w.client seq q ok name message body f g.stands.client_within t) [
+        | inl x ↦ no-more (length (given_with (eyes_of w.client) (message_seen m) (references_seen (references_of_kind m.kind)))) w.client.limits.references (subst (λ (n : ℕ). length (given_with (eyes_of w.client) (message_seen m) (references_seen (references_of_kind m.kind))) ≤ n) (sym room) few) x.1
+        | inr x ↦ elim x [ inl y ↦ (let clash = sym full ∙ y.0 in cc) | inr y ↦ (let clash = sym full ∙ y.0 in cc) ]
+      ]
+  client-fault r seq (Event name body) later f e t = cc
   client-fault r seq (Other tag) later f e t = absurd (down-first limits w (record { seq = seq; kind = Other tag }) later e g.stands).0
 
 -- ---- the law
@@ -132,7 +127,7 @@ asked-so b Adapter kind h = tt
 pub references-agree : {D : Type 0} (laws : Laws) (states : EachStepKeepsState) (shown : D → Shown) (follows : Goes D) → Answers shown follows → Moves shown follows → ReferencesAgreeWhileStopsLast shown follows
 references-agree {D} laws states shown follows answers moves limits debuggee w r s =
     let g : StandsStill shown limits debuggee w = schedule-still shown follows answers moves laws states limits debuggee w r s in
-    let p : Pair = pair_of w g.stands.given g.stands.by in
+    let p : Pair = pair_of w g.stands.by in
     let live : NamesLive (client_world p) (small_asks (all_kept w.adapter.session.kept) ++ requests_in (requests_up (notes_seen w.up))) = all-names-live limits.requests limits.references (client_world p) g.keeps.refs in
     let kept : AllByRecursion (λ k. AreLive w.adapter.session.references (references_used_by_request k.entry)) w.adapter.session.kept = kept-live limits w g.stands w.adapter.session.kept g.stands.kept (names-left (client_world p) (small_asks (all_kept w.adapter.session.kept)) (requests_in (requests_up (notes_seen w.up))) live) in
     record {

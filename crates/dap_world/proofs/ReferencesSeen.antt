@@ -1,21 +1,20 @@
 -- The references that an end has, as the smaller end has them: what is live, what is known, and what is used and given.
-use Rattle.std.proofs.Common.{◌≡◌, ℕ, zero, suc, ◌+◌, ◌-◌, ◌<◌, ◌≤◌, List, [], ◌∷◌, ◌++◌, length, Bool, true, false, Option, None, refl, sym, ap, ◌∙◌, subst, inl, inr, arith}
+use Rattle.std.proofs.Common.{◌≡◌, ℕ, zero, suc, ◌+◌, ◌-◌, ◌<◌, ◌≤◌, List, [], ◌∷◌, ◌++◌, length, Bool, true, false, Option, None, refl, sym, ap, ◌∙◌, inl, inr, arith}
 use Rattle.std.specs.Prelude.{◌⊎◌, ◌==◌, ◌&&◌, ◌||◌, nat_lt, slice_get, if◌then◌else◌}
-use Rattle.std.specs.List.{IsDistinct, list_all}
-use Rattle.std.specs.Set.{is_member, distinct_count}
+use Rattle.std.specs.List.{list_all}
+use Rattle.std.specs.Set.{is_member}
 use Rattle.std.proofs.lemmas.Bool.Decides.{nat_tests}
 use Rattle.std.proofs.lemmas.List.{map-append}
-use Rattle.std.proofs.lemmas.List.Folds.{list_any-append}
-use Rattle.dap_ends.specs.References.{Ref, Table, same_ref, same_kind as small_same_kind, IsWithin, all_in, references_from, live_refs, without_references as small_without}
-use Rattle.dap_ends.proofs.Members.{absent-apart, distinct-within, distinct-among}
-use Rattle.dap_tables.specs.Known.{is_pair, has_pair, with_pairs, HasDistinctPairs}
-use Rattle.dap_tables.specs.References.{LiveReferences, same_kind, target_of, is_of_kind, without_references}
+use Rattle.dap_ends.specs.References.{Table, same_ref, same_kind as small_same_kind, IsWithin, all_in, references_from, live_refs, without_references as small_without}
+use Rattle.dap_tables.specs.Known.{has_pair}
+use Rattle.dap_tables.specs.References.{LiveReferences, target_of, is_of_kind, without_references}
 use Rattle.dap_tables.specs.declared.reference_kind.ReferenceKind.{ReferenceKind}
 use Rattle.dap_tables.specs.declared.reference_kind.ReferenceKind.TheVariants.{Frame, Holder}
 use Rattle.dap_tables.specs.declared.target.Target.{Target}
-use Rattle.dap_tables.proofs.KnownLemmas.{known_is_a_set}
 use Rattle.dap_query.specs.References.{AreLive}
-use Rattle.dap_world.specs.Projection.{is_frame, reference_seen, references_seen, kinds_of, table_of}
+use Rattle.dap_client.proofs.ReferenceLemmas.{has-member, same-kinds}
+use Rattle.dap_client.specs.Projection.{is_frame, reference_seen, references_seen}
+use Rattle.dap_world.specs.Projection.{kinds_of, table_of}
 use Rattle.dap_world.proofs.Booleans.{and-false, and-left, and-right, or-false, or-left-true, or-right-true}
 
 -- ---- the table
@@ -35,12 +34,6 @@ table-without refs =
     ap (λ (n : ℕ). let t : Table = record { base = n; live = [] } in t) base
 
 -- ---- what is live
-
-same-kinds : (k j : ReferenceKind) → small_same_kind (is_frame k) (is_frame j) ≡ same_kind j k
-same-kinds Frame Frame = refl
-same-kinds Frame Holder = refl
-same-kinds Holder Frame = refl
-same-kinds Holder Holder = refl
 
 apart : (m n : ℕ) → m < n → (m == n) ≡ false
 apart m n h = grind (arith, nat_tests)
@@ -124,80 +117,7 @@ are-live refs (p ∷ ps) h = (
 
 -- ---- what is known
 
-eqb-turned : (m n : ℕ) → (m == n) ≡ (n == m)
-eqb-turned m n = grind (arith, nat_tests)
-
-pair-seen : (p q : ReferenceKind × ℕ) → same_ref (reference_seen p) (reference_seen q) ≡ is_pair q p
-pair-seen p q = rw (same-kinds p.0 q.0, eqb-turned p.1 q.1) refl
-
-pub has-member : (p : ReferenceKind × ℕ) (ps : List (ReferenceKind × ℕ)) → is_member same_ref (references_seen ps) (reference_seen p) ≡ has_pair p ps
-has-member p [] = refl
-has-member p (q ∷ ps) = rw (pair-seen p q, has-member p ps) refl
-
--- each reference is seen of a pair
-abbrev kind_if : Bool → ReferenceKind
-kind_if true = Frame
-kind_if false = Holder
-
-kind-back : (b : Bool) → is_frame (kind_if b) ≡ b
-kind-back true = refl
-kind-back false = refl
-
-seen-back : (x : Ref) → reference_seen (kind_if x.is_frame, x.number) ≡ x
-seen-back x = ap (λ (b : Bool). let r : Ref = record { is_frame = b; number = x.number } in r) (kind-back x.is_frame)
-
--- a client knows the same: the smaller one may hold a reference more than once
-pub record Knows (given : List Ref) (known : List (ReferenceKind × ℕ)) : Type 0 where
-  pub same : (p : ReferenceKind × ℕ) → is_member same_ref given (reference_seen p) ≡ has_pair p known
-
-pub knows-none : Knows [] []
-knows-none = record { same = λ p. refl }
-
-pub knows-more : (given : List Ref) (known ps : List (ReferenceKind × ℕ)) → Knows given known → Knows (given ++ references_seen ps) (with_pairs ps known)
-knows-more given known ps k =
-    record {
-      same = λ p.
-          let both : is_member same_ref (given ++ references_seen ps) (reference_seen p) ≡ (is_member same_ref given (reference_seen p) || is_member same_ref (references_seen ps) (reference_seen p)) = list_any-append (same_ref (reference_seen p)) given (references_seen ps) in
-          both ∙ (rw (k.same p, has-member p ps) refl ∙ sym (known_is_a_set.union p ps known));
-    }
-
-knows-within : (given : List Ref) (known : List (ReferenceKind × ℕ)) → Knows given known → IsWithin given (references_seen known)
-knows-within given known k x e =
-    let p : ReferenceKind × ℕ = (kind_if x.is_frame, x.number) in
-    let back = seen-back x in
-    subst (λ (y : Ref). is_member same_ref (references_seen known) y ≡ true) back (has-member p known ∙ (sym (k.same p) ∙ subst (λ (y : Ref). is_member same_ref given y ≡ true) (sym back) e))
-
-within-known : (given : List Ref) (known : List (ReferenceKind × ℕ)) → Knows given known → IsWithin (references_seen known) given
-within-known given known k x e =
-    let p : ReferenceKind × ℕ = (kind_if x.is_frame, x.number) in
-    let back = seen-back x in
-    subst (λ (y : Ref). is_member same_ref given y ≡ true) back (k.same p ∙ (sym (has-member p known) ∙ subst (λ (y : Ref). is_member same_ref (references_seen known) y ≡ true) (sym back) e))
-
-length-seen : (ps : List (ReferenceKind × ℕ)) → length (references_seen ps) ≡ length ps
-length-seen [] = refl
-length-seen (p ∷ ps) = let ih = length-seen ps in omega arith
-
--- no more than it knows
-pub knows-few : (given : List Ref) (known : List (ReferenceKind × ℕ)) → Knows given known → distinct_count same_ref given ≤ length known
-knows-few given known k =
-    let few = distinct-within given (references_seen known) (knows-within given known k) in
-    let same = length-seen known in
-    omega (arith, few, same)
-
--- and no fewer, where it knows each once
-seen-distinct : (ps : List (ReferenceKind × ℕ)) → HasDistinctPairs ps → IsDistinct same_ref (references_seen ps)
-unfolding IsDistinct
-seen-distinct [] d = tt
-seen-distinct (p ∷ ps) d = (absent-apart (reference_seen p) (references_seen ps) (has-member p ps ∙ d.0), seen-distinct ps d.1)
-
-pub knows-many : (given : List Ref) (known : List (ReferenceKind × ℕ)) → Knows given known → HasDistinctPairs known → length known ≤ distinct_count same_ref given
-knows-many given known k d =
-    let many = distinct-among (references_seen known) given (seen-distinct known d) (within-known given known k) in
-    let same = length-seen known in
-    omega (arith, many, same)
-
--- what is known by the table is known by the smaller client
-pub all-known : (given : List Ref) (known ps : List (ReferenceKind × ℕ)) → Knows given known → list_all (λ p. has_pair p known) ps ≡ true → all_in given (references_seen ps) ≡ true
-all-known given known [] k h = refl
-all-known given known (p ∷ ps) k h =
-    rw (k.same p ∙ and-left (has_pair p known) (list_all (λ q. has_pair q known) ps) h) (all-known given known ps k (and-right (has_pair p known) (list_all (λ q. has_pair q known) ps) h))
+pub all-known : (known ps : List (ReferenceKind × ℕ)) → list_all (λ p. has_pair p known) ps ≡ true → all_in (references_seen known) (references_seen ps) ≡ true
+all-known known [] h = refl
+all-known known (p ∷ ps) h =
+    rw (has-member p known ∙ and-left (has_pair p known) (list_all (λ q. has_pair q known) ps) h) (all-known known ps (and-right (has_pair p known) (list_all (λ q. has_pair q known) ps) h))

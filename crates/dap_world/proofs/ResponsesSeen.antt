@@ -4,7 +4,7 @@ use Rattle.std.specs.Prelude.{◌==◌, ◌&&◌, not, nat_le, ◌+◌, bytes_eq
 use Rattle.std.proofs.lemmas.Bool.Decides.{nat_tests}
 use Rattle.dap_ends.specs.Messages.{answer_each as answer_all}
 use Rattle.dap_ends.specs.AdapterModel.{parked_of, unparked_of, ends_wait, asks as small_asks, phase_after_start, Kept as SmallKept}
-use Rattle.dap_ends.specs.AdapterModel as desk
+use Rattle.dap_ends.specs.AdapterModel as model
 use Rattle.dap_ends.specs.Standing.{AllLaunch}
 use Rattle.dap_ends.proofs.Counts.{names-same}
 use Rattle.dap_call.specs.Terminal.{run_in_terminal}
@@ -20,7 +20,7 @@ use Rattle.dap_plan.specs.Plan.{Made, Plan, messages_due, plan_within_numbers}
 use Rattle.dap_plan.specs.Session.{Session, is_asked}
 use Rattle.dap_plan.specs.Taking.{after_terminal, after_late_terminal, plan_of_response, takes_response}
 use Rattle.dap_world.specs.Projection.{adapter_model_phase, all_kept, adapter_model_of}
-use Rattle.dap_world.proofs.Answered.{AllHarmless, AllGiveNone, none-each, none-reply, is_done, told-reply, starts-phase, harmless-after_park, same-desk}
+use Rattle.dap_world.proofs.Answered.{AllHarmless, AllGiveNone, none-each, none-reply, is_done, told-reply, starts-phase, harmless-after_park, same-adapter-model}
 use Rattle.dap_world.proofs.KeptSeen.{all_told, each-succeeded, parked-seen, unparked-seen}
 use Rattle.dap_world.proofs.RowsSeen.{at}
 use Rattle.dap_world.proofs.TakesSeen.{afforded}
@@ -30,7 +30,7 @@ pub record EndsWaiting (s : Session) (ok : Bool) (made : Made) : Type 0 where
   pub starts : Bool
   pub options_are : made.after.options ≡ s.options
   pub none : made.after.asked ≡ None
-  pub after : adapter_model_of made.after ≡ (ends_wait (adapter_model_phase s.phase) (adapter_model_of s) (ok && starts)).desk
+  pub after : adapter_model_of made.after ≡ (ends_wait (adapter_model_phase s.phase) (adapter_model_of s) (ok && starts)).adapter
   pub outs : all_told made.drafts ≡ (ends_wait (adapter_model_phase s.phase) (adapter_model_of s) (ok && starts)).outs
   pub harmless : AllHarmless made.drafts
   pub references_are : made.after.references ≡ s.references
@@ -44,30 +44,30 @@ ends-by : (s : Session) (ok starts : Bool) (last : Reply) → (ok && starts) ≡
 ends-by s ok starts last e l =
     let d = adapter_model_of (at adapter.Asked s) in
     let answers = each-succeeded (by_reply None last) (is_done last) (parked_ones s.kept) (λ r. told-reply r None last) in
-    let after : adapter_model_of (after_terminal (at adapter.Asked s) last).after ≡ (ends_wait desk.AdapterAsked d (is_done last)).desk =
-    same-desk (adapter_model_phase (start_phase last)) (phase_after_start (is_done last)) (all_kept (unparked_ones s.kept)) (unparked_of (all_kept s.kept)) (starts-phase last) (unparked-seen s.kept) in
-    let outs : all_told (after_terminal (at adapter.Asked s) last).drafts ≡ (ends_wait desk.AdapterAsked d (is_done last)).outs =
+    let after : adapter_model_of (after_terminal (at adapter.Asked s) last).after ≡ (ends_wait model.AdapterAsked d (is_done last)).adapter =
+    same-adapter-model (adapter_model_phase (start_phase last)) (phase_after_start (is_done last)) (all_kept (unparked_ones s.kept)) (unparked_of (all_kept s.kept)) (starts-phase last) (unparked-seen s.kept) in
+    let outs : all_told (after_terminal (at adapter.Asked s) last).drafts ≡ (ends_wait model.AdapterAsked d (is_done last)).outs =
     answers ∙ ap (λ (ks : List SmallKept). answer_all (is_done last) (small_asks ks)) (parked-seen s.kept) in
     record {
       starts = starts;
       options_are = refl;
       none = refl;
-      after = after ∙ ap (λ (b : Bool). (ends_wait desk.AdapterAsked d b).desk) (sym e);
-      outs = outs ∙ ap (λ (b : Bool). (ends_wait desk.AdapterAsked d b).outs) (sym e);
+      after = after ∙ ap (λ (b : Bool). (ends_wait model.AdapterAsked d b).adapter) (sym e);
+      outs = outs ∙ ap (λ (b : Bool). (ends_wait model.AdapterAsked d b).outs) (sym e);
       harmless = harmless-after_park last (parked_ones s.kept) (subst AllLaunch (sym (parked-seen s.kept)) l);
       references_are = refl;
       none_given = none-each (by_reply None last) (parked_ones s.kept) (none-reply last);
     }
 
 -- none is waited for
-ends-late : (p : Phase) (s : Session) (ok : Bool) → ends_wait (adapter_model_phase p) (adapter_model_of (at p s)) (ok && true) ≡ (let m : desk.Made = record { desk = adapter_model_of (at p s); outs = [] } in m) → EndsWaiting (at p s) ok (after_late_terminal (at p s))
+ends-late : (p : Phase) (s : Session) (ok : Bool) → ends_wait (adapter_model_phase p) (adapter_model_of (at p s)) (ok && true) ≡ (let m : model.Made = record { adapter = adapter_model_of (at p s); outs = [] } in m) → EndsWaiting (at p s) ok (after_late_terminal (at p s))
 ends-late p s ok e =
     record {
       starts = true;
       options_are = refl;
       none = refl;
-      after = ap (λ (m : desk.Made). m.desk) (sym e);
-      outs = ap (λ (m : desk.Made). m.outs) (sym e);
+      after = ap (λ (m : model.Made). m.adapter) (sym e);
+      outs = ap (λ (m : model.Made). m.outs) (sym e);
       harmless = tt;
       references_are = refl;
       none_given = tt;

@@ -1,7 +1,7 @@
 -- What stands where a stop lasts until the debuggee is asked to go on or to end: the smaller pair keeps its references, and the adapter's phase is the debuggee's state.
 use Rattle.std.proofs.Common.{◌≡◌, false, refl, sym, subst, true≢false}
 use Rattle.std.specs.Prelude.{IsTrue}
-use Rattle.dap_ends.specs.AdapterModel as desk
+use Rattle.dap_ends.specs.AdapterModel as model
 use Rattle.dap_ends.specs.Pair.{Pair}
 use Rattle.dap_ends.specs.References.{moves_by_itself}
 use Rattle.dap_ends.proofs.PairSchedules.{owns-start}
@@ -33,12 +33,12 @@ use Rattle.dap_world.proofs.Stepping.{Laws, turn-stands, poll-stands, up-stands}
 
 pub record StandsStill {D : Type 0} (shown : D → Shown) (limits : Settings) (debuggee : D) (w : World D) : Type 0 where
   pub stands : Stands limits w
-  pub keeps : KeepsReferences limits.requests limits.references (pair_of w stands.given stands.by)
+  pub keeps : KeepsReferences limits.requests limits.references (pair_of w stands.by)
   pub state : IsStateOf (shown debuggee).state w.adapter.session.phase (shown w.adapter.debuggee).state
 
 -- ---- a poll in which the debuggee doesn't move by itself
 
-running-calm : (r : Reply) → IsTrue (may_answer state.Running to_poll r) → moves_by_itself desk.AdapterRunning (happening_seen r) ≡ false
+running-calm : (r : Reply) → IsTrue (may_answer state.Running to_poll r) → moves_by_itself model.AdapterRunning (happening_seen r) ≡ false
 running-calm done m = refl
 running-calm refused m = refl
 running-calm (happened happening.Nothing) m = refl
@@ -47,7 +47,7 @@ running-calm (happened (happening.Stopped reason thread)) m = refl
 running-calm (happened (happening.Continued thread)) m = absurd (true≢false (sym m))
 running-calm (happened (happening.Exited code)) m = refl
 
-stopped-calm : (r : Reply) → IsTrue (may_answer state.Stopped to_poll r) → ends_a_stop state.Stopped r ≡ false → moves_by_itself desk.AdapterStopped (happening_seen r) ≡ false
+stopped-calm : (r : Reply) → IsTrue (may_answer state.Stopped to_poll r) → ends_a_stop state.Stopped r ≡ false → moves_by_itself model.AdapterStopped (happening_seen r) ≡ false
 stopped-calm done m e = refl
 stopped-calm refused m e = refl
 stopped-calm (happened happening.Nothing) m e = refl
@@ -83,17 +83,17 @@ module _ {D : Type 0} (shown : D → Shown) (follows : Goes D) (answers : Answer
       let kept : IsStateOf first (makes c.0).after.phase (state_after (shown v).state act c.0) = keeps (shown v).state c.0 (answers v w act c.0 c.1.0) h in
       subst (λ (m : Made). IsStateOf first m.after.phase (shown w).state) (sym c.2) (subst (λ (x : State). IsStateOf first (makes c.0).after.phase x) (sym now) kept)
 
-  state-stepped : (first : State) (plan : Plan) (old left new : World D) (seat : SessionState D) (t : SessionStep lasting plan old.adapter seat) → new ≡ adapter_said seat (written_by old.adapter.session t.made) left
+  state-stepped : (first : State) (plan : Plan) (old left new : World D) (session_state : SessionState D) (t : SessionStep lasting plan old.adapter session_state) → new ≡ adapter_said session_state (written_by old.adapter.session t.made) left
       → KeepsState first old.adapter.session plan → IsStateOf first old.adapter.session.phase (shown old.adapter.debuggee).state → IsStateOf first new.adapter.session.phase (shown new.adapter.debuggee).state
-  state-stepped first plan old left new seat t is keeps h =
-      let then = state-carried first old.adapter.session plan t.made old.adapter.debuggee seat.debuggee keeps t.carried h in
-      subst (λ (x : World D). IsStateOf first x.adapter.session.phase (shown x.adapter.debuggee).state) (sym is) (subst (λ (x : Session). IsStateOf first x.phase (shown seat.debuggee).state) (sym t.after) then)
+  state-stepped first plan old left new session_state t is keeps h =
+      let then = state-carried first old.adapter.session plan t.made old.adapter.debuggee session_state.debuggee keeps t.carried h in
+      subst (λ (x : World D). IsStateOf first x.adapter.session.phase (shown x.adapter.debuggee).state) (sym is) (subst (λ (x : Session). IsStateOf first x.phase (shown session_state.debuggee).state) (sym t.after) then)
 
   -- ---- a step
 
-  keeps-then : (limits : Settings) (old new : World D) (calm : Type 0) (g : Stands limits old) (a : StandsAfter limits old g new calm) → calm → KeepsReferences limits.requests limits.references (pair_of old g.given g.by) → KeepsReferences limits.requests limits.references (pair_of new a.stands.given a.stands.by)
+  keeps-then : (limits : Settings) (old new : World D) (calm : Type 0) (g : Stands limits old) (a : StandsAfter limits old g new calm) → calm → KeepsReferences limits.requests limits.references (pair_of old g.by) → KeepsReferences limits.requests limits.references (pair_of new a.stands.by)
   keeps-then limits old new calm g a c k =
-      subst (λ (p : Pair). KeepsReferences limits.requests limits.references p) a.is (keeps-references-step limits.requests limits.references (pair_of old g.given g.by) a.step (a.still c) k)
+      subst (λ (p : Pair). KeepsReferences limits.requests limits.references p) a.is (keeps-references-step limits.requests limits.references (pair_of old g.by) a.step (a.still c) k)
 
   step-still : Laws → EachStepKeepsState → (limits : Settings) (debuggee : D) (old new : World D) → AreInRange limits → Step shown lasting old new → StandsStill shown limits debuggee old → StandsStill shown limits debuggee new
   step-still laws states limits debuggee old new r (by_sending call t) g =
@@ -111,7 +111,7 @@ module _ {D : Type 0} (shown : D → Shown) (follows : Goes D) (answers : Answer
       record {
         stands = a.stands;
         keeps = keeps-then limits old new (Unit {0}) g.stands a tt g.keeps;
-        state = state-stepped first t.plan old (record old { up = t.later }) new t.step.seat t.step.session t.step.is (states.take first old.adapter.session t.message t.plan t.taken) g.state;
+        state = state-stepped first t.plan old (record old { up = t.later }) new t.step.adapter t.step.session t.step.is (states.take first old.adapter.session t.message t.plan t.taken) g.state;
       }
   step-still laws states limits debuggee old new r (by_turning t) g =
       let a = turn-stands laws shown lasting limits old new r t g.stands in
@@ -119,17 +119,17 @@ module _ {D : Type 0} (shown : D → Shown) (follows : Goes D) (answers : Answer
       record {
         stands = a.stands;
         keeps = keeps-then limits old new (Unit {0}) g.stands a tt g.keeps;
-        state = state-stepped first t.plan old old new t.step.seat t.step.session t.step.is (states.turn first (shown old.adapter.debuggee) old.adapter.session t.plan t.turned) g.state;
+        state = state-stepped first t.plan old old new t.step.adapter t.step.session t.step.is (states.turn first (shown old.adapter.debuggee) old.adapter.session t.plan t.turned) g.state;
       }
   step-still laws states limits debuggee old new r (by_polling t) g =
       let a = poll-stands laws lasting limits old new t g.stands in
       let first = (shown debuggee).state in
       let s : Session = old.adapter.session in
-      let calm = poll-calm s.phase first s t.step.session.made old.adapter.debuggee t.step.seat.debuggee t.step.session.carried g.state in
+      let calm = poll-calm s.phase first s t.step.session.made old.adapter.debuggee t.step.adapter.debuggee t.step.session.carried g.state in
       record {
         stands = a.stands;
         keeps = keeps-then limits old new _ g.stands a calm g.keeps;
-        state = state-stepped first (polls s) old old new t.step.seat t.step.session t.step.is (states.poll first s) g.state;
+        state = state-stepped first (polls s) old old new t.step.adapter t.step.session t.step.is (states.poll first s) g.state;
       }
 
   pub schedule-still : Laws → EachStepKeepsState → (limits : Settings) (debuggee : D) (w : World D) → AreInRange limits → Schedule shown lasting limits debuggee w → StandsStill shown limits debuggee w

@@ -36,7 +36,8 @@ use Rattle.dap_outbox.specs.Draft.{own_request}
 use Rattle.dap_query.specs.declared.options.Options.{Options}
 use Rattle.dap_decision.specs.declared.phase.Phase.{Phase}
 use Rattle.dap_decision.specs.declared.phase.Phase.TheVariants as adapter
-use Rattle.dap_world.specs.Projection.{class_of, class_if, ask_of, entry_ask, note_seen, notes_seen, written_seen, adapter_model_phase, all_kept, adapter_model_of, announces, wanted_by, wanted_of, own_seen, table_of, ByNumber, pair_of, kept_seen}
+use Rattle.dap_client.specs.Projection.{class_of, class_if, ask_of, entry_ask}
+use Rattle.dap_world.specs.Projection.{note_seen, notes_seen, written_seen, adapter_model_phase, all_kept, adapter_model_of, announces, wanted_by, wanted_of, own_seen, table_of, ByNumber, pair_of, kept_seen}
 use Rattle.dap_world.specs.World.{World, said_by}
 use Rattle.dap_world.proofs.Answered.{AllHarmless, given_first, AllGive, all-none}
 use Rattle.dap_world.proofs.KeptSeen.{told, all_told}
@@ -112,13 +113,13 @@ would-is adapter.Parked command.ConfigurationDone s r by used named w o l n =
 would-is _ command.Launch s r by used named w o l n = refl
 would-is _ _ s r by used named w o l n = refl
 
-pub turn-asks : {D : Type 0} (w : World D) (known : List Ref) (by : ByNumber) (used : ℕ) (h : Handled w.adapter.session) → by.wants h.k.entry.seq ≡ wanted_of h.k.entry → AllOwn by used (all_asks w.adapter.session.kept)
+pub turn-asks : {D : Type 0} (w : World D) (by : ByNumber) (used : ℕ) (h : Handled w.adapter.session) → by.wants h.k.entry.seq ≡ wanted_of h.k.entry → AllOwn by used (all_asks w.adapter.session.kept)
     → AllLaunch (parked_of (all_kept w.adapter.session.kept)) → length (parked_of (all_kept w.adapter.session.kept)) ≡ one_if (is_parked_phase (adapter_model_phase w.adapter.session.phase))
-    → turn_asks (pair_of w known by) (small_oldest (all_kept w.adapter.session.kept)) ≡ asks_by w.adapter.session.phase (command_in h.call) w.adapter.session h.k.entry
-turn-asks w known by used h k o l n =
+    → turn_asks (pair_of w by) (small_oldest (all_kept w.adapter.session.kept)) ≡ asks_by w.adapter.session.phase (command_in h.call) w.adapter.session h.k.entry
+turn-asks w by used h k o l n =
     let s : Session = w.adapter.session in
     let ls = small_asks (parked_of (all_kept s.kept)) in
-    ap (λ (x : Option Ask). turn_asks (pair_of w known by) x) h.first
+    ap (λ (x : Option Ask). turn_asks (pair_of w by) x) h.first
     ∙ (ap (λ (x : Option Command). would (adapter_model_phase s.phase) (class_if x) s.options.supports_run_in_terminal_request by.wants (entry_ask h.k.entry) ls) h.named
     ∙ would-is s.phase (command_in h.call) s h.k.entry by used h.named k o l n)
 
@@ -160,13 +161,13 @@ fair-turn s made t a e y f =
     let is : entry_ask t.handled.k.entry ≡ a = cc in
     t.fair y (ap (λ (x : Ask). answer_of (adapter_model_phase s.phase) x.command) is ∙ f)
 
-pub turn-pair : {D : Type 0} (n r : ℕ) (w : World D) (known : List Ref) (by : ByNumber) (made : Made) (v : D) (t : IsTurn w.adapter.session made)
-    → turn_asks (pair_of w known by) (small_oldest (all_kept w.adapter.session.kept)) ≡ false → by.wants t.handled.k.entry.seq ≡ wanted_of t.handled.k.entry → GoesWell w.adapter.session [] None made
+pub turn-pair : {D : Type 0} (n r : ℕ) (w : World D) (by : ByNumber) (made : Made) (v : D) (t : IsTurn w.adapter.session made)
+    → turn_asks (pair_of w by) (small_oldest (all_kept w.adapter.session.kept)) ≡ false → by.wants t.handled.k.entry.seq ≡ wanted_of t.handled.k.entry → GoesWell w.adapter.session [] None made
     → length made.after.references.live ≤ r → AllGiveLive made.after.references made.drafts
-    → pair_happens n r (pair_of w known by) (PairTurn t.ok t.more (given_first made.drafts)) ≡ pair_of (world_made w w.up made v) known by
-turn-pair n r w known by made v t none k g few live =
+    → pair_happens n r (pair_of w by) (PairTurn t.ok t.more (given_first made.drafts)) ≡ pair_of (world_made w w.up made v) by
+turn-pair n r w by made v t none k g few live =
     let s : Session = w.adapter.session in
-    let p : Pair = pair_of w known by in
+    let p : Pair = pair_of w by in
     let o = small_oldest (all_kept s.kept) in
     let d : AdapterModel = adapter_model_of s in
     let table : Table = table_of s.references in
@@ -180,7 +181,7 @@ turn-pair n r w known by made v t none k g few live =
     ∙ (ap (λ (more : List Bool). pair_after_turn r p t.ok more (unless_sets_variable (sets_variable o) named)) (unless-same (sets_variable o) t.more (λ e. (t.sets e).0))
     ∙ (ap (λ (refs : List Ref). pair_after_turn r p t.ok t.more refs) (unless-same (sets_variable o) named (λ e. (t.sets e).1))
     ∙ (ap (λ (ok : Bool). pair_after_adapter (record p { terminal = announced }) (adapter_model_turns d ok) named (table_after o phase ok table t.more)) so
-    ∙ made-pair w known by w.up made v (adapter_model_turns d t.ok) named (table_after o phase t.ok table t.more) announced (own_seen (own_requests s.asked)) t.after t.outs t.harmless t.gives t.table g.used
+    ∙ made-pair w by w.up made v (adapter_model_turns d t.ok) named (table_after o phase t.ok table t.more) announced (own_seen (own_requests s.asked)) t.after t.outs t.harmless t.gives t.table g.used
     (turn-announced w by.wants t.handled made.after.options k t.options_are) (ap own_seen (sym (own-stays s [] made g t.harmless))))))
 
 -- ---- a turn that asks for a terminal
@@ -221,12 +222,12 @@ notes-by-more : (xs : List NumberedNote) (y : NumberedNote) → notes_written_by
 notes-by-more [] y = refl
 notes-by-more (x ∷ xs) y = ap (λ (ls : List WrittenNote). let l : WrittenNote = record { by_client = false; numbered = x } in l ∷ ls) (notes-by-more xs y)
 
-pub asking-pair : {D : Type 0} (n r : ℕ) (w : World D) (known : List Ref) (by : ByNumber) (made : Made) (v : D) (t : IsAskingTurn w.adapter.session made)
-    → turn_asks (pair_of w known by) (small_oldest (all_kept w.adapter.session.kept)) ≡ true → GoesWell w.adapter.session [] None made
-    → pair_happens n r (pair_of w known by) (PairTurn true [] []) ≡ pair_of (world_made w w.up made v) known by
-asking-pair n r w known by made v t one g =
+pub asking-pair : {D : Type 0} (n r : ℕ) (w : World D) (by : ByNumber) (made : Made) (v : D) (t : IsAskingTurn w.adapter.session made)
+    → turn_asks (pair_of w by) (small_oldest (all_kept w.adapter.session.kept)) ≡ true → GoesWell w.adapter.session [] None made
+    → pair_happens n r (pair_of w by) (PairTurn true [] []) ≡ pair_of (world_made w w.up made v) by
+asking-pair n r w by made v t one g =
     let s : Session = w.adapter.session in
-    let p : Pair = pair_of w known by in
+    let p : Pair = pair_of w by in
     let o = small_oldest (all_kept s.kept) in
     let x : SmallMade = after_asking_turn o (adapter_model_of s) in
     let many : length x.outs ≡ length t.before = ap length (sym t.outs) ∙ told-length t.before in
@@ -238,7 +239,7 @@ asking-pair n r w known by made v t one g =
     ∙ (ap (λ (k : ℕ). numbered_notes s.used [] (all_told t.before) ++ note_asking k ∷ []) next
     ∙ (sym (numbered-asking s.used t.before t.harmless (all-none t.before t.none_given)) ∙ ap (λ (ds : List Draft). notes_seen (numbered_messages s.used ds)) (sym t.drafts_are))) in
     ap (λ (b : Bool). if b then pair_asks_terminal p else pair_after_turn r p true (unless_sets_variable (sets_variable o) []) (unless_sets_variable (sets_variable o) [])) one
-    ∙ same-adapter p x.desk (adapter_model_of made.after) (table_of s.references) (table_of made.after.references) s.options.supports_run_in_terminal_request made.after.options.supports_run_in_terminal_request (s.used + length x.outs + 1) made.after.used
+    ∙ same-adapter p x.adapter (adapter_model_of made.after) (table_of s.references) (table_of made.after.references) s.options.supports_run_in_terminal_request made.after.options.supports_run_in_terminal_request (s.used + length x.outs + 1) made.after.used
     (own_seen (own_requests s.asked) ++ terminal_ask (s.used + length x.outs + 1) ∷ []) (own_seen (own_requests made.after.asked))
     ((notes_seen w.down ++ numbered_notes s.used [] x.outs) ++ note_asking (s.used + length x.outs + 1) ∷ []) (notes_seen (w.down ++ numbered_messages s.used made.drafts))
     ((written_seen w.said ++ notes_written_by false (numbered_notes s.used [] x.outs)) ++ (let l : WrittenNote = record { by_client = false; numbered = note_asking (s.used + length x.outs + 1) } in l) ∷ []) (written_seen (w.said ++ said_by Adapter (numbered_messages s.used made.drafts)))

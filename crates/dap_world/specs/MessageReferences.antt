@@ -1,7 +1,8 @@
 -- The references that messages have: a request uses some, and a success gives some.
 -- Overview, "Lifetime of Objects References".
-use Rattle.std.specs.Prelude.{ℕ, List, [], Option, Some, None, Ok, Err, Bool, if◌then◌else◌}
+use Rattle.std.specs.Prelude.{ℕ, List, [], Option, Some, None, Ok, Err}
 use Rattle.serde_json.specs.Data.{Data}
+use Rattle.dap_client.specs.Projection.{references_given_if}
 use Rattle.dap_client.specs.References.{references_used_by}
 use Rattle.dap_call.specs.Argument.{Read}
 use Rattle.dap_call.specs.Call.{call_of}
@@ -10,7 +11,6 @@ use Rattle.dap_call.specs.declared.call.Call.{Call}
 use Rattle.dap_command.specs.declared.command.Command.{Command}
 use Rattle.dap_envelope.specs.declared.message.Kind.{Kind}
 use Rattle.dap_envelope.specs.declared.message.Kind.TheVariants.{Request, Response, Event, Other}
-use Rattle.dap_tables.specs.Given.{references_given_in}
 use Rattle.dap_tables.specs.declared.entry.Entry.{Entry}
 use Rattle.dap_tables.specs.declared.reference_kind.ReferenceKind.{ReferenceKind}
 
@@ -33,12 +33,6 @@ references_used_by_kind (Request command arguments) = references_used_in (comman
 references_used_by_kind (Response request_seq ok command message body) = []
 references_used_by_kind (Event event body) = []
 references_used_by_kind (Other tag) = []
-
--- ---- a response
-
--- a failure gives none
-abbrev pub references_given_if : Bool → Option Command → Option Data → List (ReferenceKind × ℕ)
-references_given_if ok c body = if ok then references_given_in c body else []
 
 -- ---- any message
 

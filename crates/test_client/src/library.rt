@@ -160,7 +160,7 @@ fn frame<C: Channel + Drop>(
         levels: 1,
     };
     let told = ask(editor, &Call::StackTrace(asked))?;
-    let stack = dap_view::stack_trace(alloc, body(&told)?).ok()?;
+    let stack = dap_body::view::stack_trace(alloc, body(&told)?).ok()?;
     Some(stack.stack_frames.first()?.id)
 }
 
@@ -171,7 +171,7 @@ fn variables<C: Channel + Drop>(
     frame_id: u32,
 ) -> Option<Message> {
     let told = ask(editor, &Call::Scopes { frame_id })?;
-    let scopes = dap_view::scopes(alloc, body(&told)?).ok()?;
+    let scopes = dap_body::view::scopes(alloc, body(&told)?).ok()?;
     let variables_reference = scopes.first()?.variables_reference;
     let asked = Variables {
         variables_reference,
@@ -187,7 +187,7 @@ fn lines<C: Channel + Drop>(alloc: Global, editor: &mut Connection<C>) -> Option
     let frame_id = frame(alloc, editor, 1)?;
     let told = variables(alloc, editor, frame_id)?;
     let mut lines = String::new(alloc);
-    for variable in dap_view::variables(alloc, body(&told)?).ok()?.iter() {
+    for variable in dap_body::view::variables(alloc, body(&told)?).ok()?.iter() {
         writeln!(lines, "{} = {}", variable.name, variable.value).ok()?;
     }
     Some(lines)

@@ -1,4 +1,4 @@
-//! Whole sessions by `answer`, in pieces, and messages that a client hears by `next`: where memory is refused, what was
+//! Whole sessions by `answer`, in pieces, and by `answer_body`, and messages that a client hears by `next`: where memory is refused, what was
 //! appended is a front of what is due, and each later call answers the same.
 
 ghost use Rattle.std.specs.Prelude.{◌≡◌};
@@ -7,7 +7,7 @@ ghost use Rattle.dap_debuggee.specs.declared.answers.State.{State};
 use crate::debuggee::RECORDING;
 use crate::outcomes::{judge, refused};
 use crate::serving::{LOOKS, SESSION, TERMINAL};
-use dap_adapter::{Adapter, AdapterFault};
+use dap_adapter::{Adapter, AdapterFault, first_body};
 use dap_client::{Client, ClientFault};
 use dap_frame::Limits;
 use dap_recording::RecordingFault;
@@ -16,18 +16,46 @@ use std::alloc::Global;
 use std::test::Fail;
 use test_kit::served::{Stream, stream_of};
 
-/// Hands a session to an adapter in pieces, and then polls: whether it has ended.
+/// How a session is handed to an adapter.
+#[derive(Clone, Copy)]
+enum By {
+    Pieces,
+    Bodies,
+}
+
+/// Hands the first of these bytes to an adapter: whether the session has ended, and what is behind them.
+fn answer_next<'a>(
+    alloc: Global,
+    adapter: &mut Adapter<Recorded>,
+    by: By,
+    rest: &'a [u8],
+    out: &mut Vec<u8>,
+) -> Result<(bool, &'a [u8]), AdapterFault> {
+    match by {
+        By::Pieces => {
+            let (piece, later) = rest.split_at(rest.len().min(50));
+            Ok((adapter.answer(alloc, piece, out)?, later))
+        }
+        By::Bodies => match first_body(rest) {
+            Some((body, later)) => Ok((adapter.answer_body(alloc, body, out)?, later)),
+            None => Ok((adapter.answer(alloc, rest, out)?, rest)),
+        },
+    }
+}
+
+/// Hands a session to an adapter, and then polls: whether it has ended.
 fn answer(
     alloc: Global,
     adapter: &mut Adapter<Recorded>,
+    by: By,
     session: &[u8],
     out: &mut Vec<u8>,
 ) -> Result<bool, AdapterFault> {
     let mut ended = false;
     let mut rest = session;
     for _piece in 0..session.len() {
-        let (piece, later) = rest.split_at(rest.len().min(50));
-        ended = adapter.answer(alloc, piece, out)?;
+        let (is_ended, later) = answer_next(alloc, adapter, by, rest, out)?;
+        ended = is_ended;
         rest = later;
     }
     adapter.tell(alloc, out)?;
@@ -42,7 +70,7 @@ fn is_closed(alloc: Global, adapter: &mut Adapter<Recorded>, out: &mut Vec<u8>) 
 }
 
 /// Whether a session is answered so.
-fn answers(alloc: Global, debuggee: Recorded, session: &[u8], wanted: &[u8]) -> Option<bool>
+fn answers(alloc: Global, debuggee: Recorded, by: By, session: &[u8], wanted: &[u8]) -> Option<bool>
     requires { debuggee.state ≡ State.NotStarted }
 {
     let mut adapter = match Adapter::open(alloc, Limits::usual(), debuggee) {
@@ -50,7 +78,7 @@ fn answers(alloc: Global, debuggee: Recorded, session: &[u8], wanted: &[u8]) -> 
         Err(_) => return None,
     };
     let mut out = Vec::new(alloc);
-    let outcome = match answer(alloc, &mut adapter, session, &mut out) {
+    let outcome = match answer(alloc, &mut adapter, by, session, &mut out) {
         Ok(ended) => Some(ended && out.as_slice() == wanted),
         Err(AdapterFault::OutOfMemory) => {
             let is_front = wanted.starts_with(&out);
@@ -66,18 +94,18 @@ fn answers(alloc: Global, debuggee: Recorded, session: &[u8], wanted: &[u8]) -> 
 }
 
 /// Likewise from the recording on.
-fn is_answered(alloc: Global, stream: &Stream) -> Option<bool> {
+fn is_answered(alloc: Global, by: By, stream: &Stream) -> Option<bool> {
     match Recorded::read(alloc, RECORDING) {
-        Ok(debuggee) => answers(alloc, debuggee, &stream.input, &stream.answers),
+        Ok(debuggee) => answers(alloc, debuggee, by, &stream.input, &stream.answers),
         Err(fault) => refused(fault == RecordingFault::OutOfMemory),
     }
 }
 
 /// Likewise the stream of a row.
-fn is_row_answered(alloc: Global, row: &str) -> Option<bool> {
+fn is_row_answered(alloc: Global, by: By, row: &str) -> Option<bool> {
     match stream_of(alloc, row) {
         Ok(stream) => {
-            let outcome = is_answered(alloc, &stream);
+            let outcome = is_answered(alloc, by, &stream);
             drop(stream);
             outcome
         }
@@ -124,17 +152,27 @@ fn hears(alloc: Global) -> Option<bool> {
 
 #[test]
 fn answering(rt: HostRuntime) -> Result<(), Fail> {
-    judge(&rt, is_row_answered(rt.alloc(), SESSION))
+    judge(&rt, is_row_answered(rt.alloc(), By::Pieces, SESSION))
 }
 
 #[test]
 fn answering_in_a_terminal(rt: HostRuntime) -> Result<(), Fail> {
-    judge(&rt, is_row_answered(rt.alloc(), TERMINAL))
+    judge(&rt, is_row_answered(rt.alloc(), By::Pieces, TERMINAL))
 }
 
 #[test]
 fn answering_a_stop(rt: HostRuntime) -> Result<(), Fail> {
-    judge(&rt, is_row_answered(rt.alloc(), LOOKS))
+    judge(&rt, is_row_answered(rt.alloc(), By::Pieces, LOOKS))
+}
+
+#[test]
+fn answering_bodies(rt: HostRuntime) -> Result<(), Fail> {
+    judge(&rt, is_row_answered(rt.alloc(), By::Bodies, SESSION))
+}
+
+#[test]
+fn answering_bodies_of_a_stop(rt: HostRuntime) -> Result<(), Fail> {
+    judge(&rt, is_row_answered(rt.alloc(), By::Bodies, LOOKS))
 }
 
 #[test]

@@ -9,6 +9,7 @@
 //! tables of `test_tables`.
 
 use crate::outcomes::{judge, refused};
+use dap_body::view::{evaluate, set_variable, source};
 use dap_call::{Call, CallFault, read_call};
 use dap_command::{Capabilities, Command, Gate, frames_given, holders_given};
 use dap_debuggee::{Debuggee, DebuggeeFault, How};
@@ -19,7 +20,6 @@ use dap_recording::RecordingFault;
 use dap_replay::Recorded;
 use dap_tables::Seq;
 use dap_tool::{ToolFault, status};
-use dap_view::{evaluate, set_variable, source};
 use serde_json::Value;
 use std::alloc::{AllocError, Global};
 use std::test::Fail;

@@ -1,11 +1,11 @@
 //! The lists in bodies, as a client reads them, or want of memory.
 
 use crate::outcomes::{both, judge, refused};
-use dap_json::{ParseFault, parse};
-use dap_view::{
+use dap_body::view::{
     Breakpoint, Scope, Source, StackFrame, Thread, Variable, ViewFault, breakpoints,
     loaded_sources, scopes, stack_trace, threads, variables,
 };
+use dap_json::{ParseFault, parse};
 use serde_json::Value;
 use std::alloc::Global;
 use std::test::Fail;

@@ -1,7 +1,10 @@
-//! Commands with their gates, capabilities, and the references that a body gives.
+//! Commands with their gates and what they name and give, capabilities, and the references that a body gives.
 
 use crate::checks::check;
-use dap_command::{Capabilities, Command, Gate, frames_given, holders_given};
+use dap_call::{CallObject, read_call};
+use dap_command::{
+    Capabilities, Command, Gate, GivenObjects, NamedObject, frames_given, holders_given,
+};
 use serde_json::Value;
 use std::alloc::{AllocError, Global};
 
@@ -80,6 +83,103 @@ fn commands(rt: HostRuntime) {
     }
     for name in ["", "Threads", "threads ", "readMemory", "goto"] {
         check(&rt, Command::of_name(name).is_none(), name);
+    }
+}
+
+static OBJECTS: [(Command, NamedObject, GivenObjects); 8] = [
+    (Command::Next, NamedObject::Thread, GivenObjects::Nothing),
+    (
+        Command::StackTrace,
+        NamedObject::Thread,
+        GivenObjects::Frames,
+    ),
+    (Command::Source, NamedObject::Source, GivenObjects::Nothing),
+    (Command::Scopes, NamedObject::Frame, GivenObjects::Scopes),
+    (
+        Command::Variables,
+        NamedObject::Holder,
+        GivenObjects::Variables,
+    ),
+    (Command::Evaluate, NamedObject::Frame, GivenObjects::Value),
+    (
+        Command::SetVariable,
+        NamedObject::Holder,
+        GivenObjects::Value,
+    ),
+    (Command::Pause, NamedObject::Nothing, GivenObjects::Nothing),
+];
+
+/// What commands name, and what the bodies of their successes give.
+#[test]
+fn objects(rt: HostRuntime) {
+    for (command, named, given) in &OBJECTS {
+        let is_so = command.named_object() == *named && command.given_objects() == *given;
+        check(&rt, is_so, command.name());
+    }
+}
+
+static CALLS: [(Command, &str, CallObject); 6] = [
+    (
+        Command::StepIn,
+        r#"{"threadId":-2}"#,
+        CallObject::Thread(-2),
+    ),
+    (
+        Command::Source,
+        r#"{"source":{"sourceReference":4},"sourceReference":7}"#,
+        CallObject::Source(4),
+    ),
+    (
+        Command::Evaluate,
+        r#"{"expression":"x"}"#,
+        CallObject::Frame(None),
+    ),
+    (
+        Command::Completions,
+        r#"{"text":"x","column":1,"frameId":0}"#,
+        CallObject::Frame(Some(0)),
+    ),
+    (
+        Command::SetVariable,
+        r#"{"variablesReference":3,"name":"x","value":"1"}"#,
+        CallObject::Holder(3),
+    ),
+    (
+        Command::Pause,
+        r#"{"threadId":1}"#,
+        CallObject::Nothing,
+    ),
+];
+
+// Whether a call with these arguments names this.
+fn names(alloc: Global, command: Command, arguments: &Value, object: CallObject) -> bool {
+    match read_call(alloc, command, Some(arguments)) {
+        Ok(call) => {
+            let found = call.object() == object;
+            drop(call);
+            found
+        }
+        Err(_) => false,
+    }
+}
+
+fn text_names(alloc: Global, command: Command, arguments: &str, object: CallObject) -> bool {
+    match Value::from_str(alloc, arguments) {
+        Ok(arguments) => {
+            let found = names(alloc, command, &arguments, object);
+            drop(arguments);
+            found
+        }
+        Err(_) => false,
+    }
+}
+
+/// What calls name.
+#[test]
+fn calls(rt: HostRuntime) {
+    for (command, arguments, object) in &CALLS {
+        let is_so = text_names(rt.alloc(), *command, arguments, *object);
+        check(&rt, is_so, command.name());
     }
 }
 

@@ -1,11 +1,11 @@
 //! What a client reads of bodies: those that recorded adapters wrote, and what is at fault in others.
 
 use crate::checks::check;
-use dap_json::parse;
-use dap_view::{
+use dap_body::view::{
     breakpoints, evaluate, loaded_sources, scopes, set_variable, source, stack_trace, threads,
     variables,
 };
+use dap_json::parse;
 use serde_json::Value;
 use std::alloc::{AllocError, Global};
 

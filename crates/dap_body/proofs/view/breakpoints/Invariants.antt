@@ -1,0 +1,11 @@
+use Rattle.std.proofs.Common.{◌≡◌, ◌++◌, drop, map}
+use Rattle.serde_json.specs.View.{items_view}
+use Rattle.dap_json.specs.Property.{ok_map}
+use Rattle.dap_body.specs.View.{each}
+use Rattle.dap_body.specs.Elements.{breakpoint_of}
+use Rattle.dap_body.specs.Lent.{breakpoint_parts}
+use Rattle.dap_body.proofs.view.breakpoints.Given as goal
+
+-- those so far, and those of what is left, are all
+abbrev pub invariant-loop-index : goal.invariant-loop-index
+invariant-loop-index l = ok_map (λ xs. map breakpoint_parts l.found.items ++ xs) (each breakpoint_of l.index (items_view (drop l.index l.items))) ≡ each breakpoint_of 0 (items_view l.items)

@@ -1,0 +1,7 @@
+use Rattle.dap_body.specs.Elements.{stack_frame_of}
+use Rattle.dap_body.specs.Lent.{stack_frame_parts}
+use Rattle.dap_body.proofs.EachLemmas.{each-step}
+use Rattle.dap_body.proofs.view.stack_frames.Goals as goal
+
+pub loop-index-preserved : goal.loop-index-preserved
+loop-index-preserved c = each-step stack_frame_parts stack_frame_of c.loop-index.index _ _ c.loop-index-test.true c.index-items-index.is _ _ _ _ _ _ c.read.ensures c.add.ensures c.in_ok-add.was c.loop-index.invariant

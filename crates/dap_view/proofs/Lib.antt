@@ -1,4 +1,0 @@
-pub mod Offered
-pub mod ReadAgain
-pub mod EachLemmas
-mod ViewExamples

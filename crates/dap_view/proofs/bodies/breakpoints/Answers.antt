@@ -1,7 +1,0 @@
-use Rattle.dap_view.specs.Elements.{breakpoint_of}
-use Rattle.dap_view.specs.Lent.{breakpoint_parts}
-use Rattle.dap_view.proofs.EachLemmas.{each-step}
-use Rattle.dap_view.proofs.bodies.breakpoints.Goals as goal
-
-pub loop-index-preserved : goal.loop-index-preserved
-loop-index-preserved c = each-step breakpoint_parts breakpoint_of c.loop-index.index _ _ c.loop-index-test.true c.index-items-index.is _ _ _ _ _ _ c.read.ensures c.add.ensures c.in_ok-add.was c.loop-index.invariant

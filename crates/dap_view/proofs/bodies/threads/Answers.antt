@@ -1,7 +1,0 @@
-use Rattle.dap_view.specs.Elements.{thread_of}
-use Rattle.dap_view.specs.Lent.{thread_parts}
-use Rattle.dap_view.proofs.EachLemmas.{each-step}
-use Rattle.dap_view.proofs.bodies.threads.Goals as goal
-
-pub loop-index-preserved : goal.loop-index-preserved
-loop-index-preserved c = each-step thread_parts thread_of c.loop-index.index _ _ c.loop-index-test.true c.index-items-index.is _ _ _ _ _ _ c.read.ensures c.add.ensures c.in_ok-add.was c.loop-index.invariant

@@ -1,6 +1,0 @@
-pub mod Key
-pub mod At
-pub mod Elements
-pub mod Lent
-pub mod Bodies
-pub mod ReadAgain
