@@ -13,6 +13,7 @@ from trial import request_frame, run, try_rows
 
 SERVE = ["serve", RECORDING]
 THREAD = {"threadId": 1}
+ARGUMENTS = b'{"seq":1,"type":"request","command":"evaluate","arguments":{"expression":"a text","of":[1,"b",{"c":null}]}}'
 NOT_INITIALIZED = (
     b'{"body":{"error":{"format":"The session is not initialized.","id":1001}},"command":"threads",'
     b'"message":"notInitialized","request_seq":1,"seq":1,"success":false,"type":"response"}'
@@ -215,10 +216,27 @@ def peak(pieces):
     return int(told[0].split()[1])
 
 
-def threads_asked(count):
-    """So many requests, a hundred at once."""
-    for seq in range(100, count + 1, 100):
-        yield frame(THREADS) * 100, b'"seq":%d,"success"' % seq
+def asked_often(body):
+    """One request, so many times, a hundred at once."""
+
+    def pieces(count):
+        for seq in range(100, count + 1, 100):
+            yield frame(body) * 100, b'"seq":%d,"success"' % seq
+
+    return pieces
+
+
+def looked_at(count):
+    """A session that is stopped, and so many requests of what is shown there."""
+    asked = [("threads", None), ("stackTrace", THREAD), ("scopes", {"frameId": 1}), ("variables", {"variablesReference": 2})]
+    asked += [("evaluate", {"expression": "x", "frameId": 1}), ("evaluate", {"expression": "none"})]
+    asked += [("source", {"sourceReference": 1}), ("loadedSources", None), ("exceptionInfo", THREAD), ("nothing", {"a": ["b"]})]
+    started = [("launch", {}), ("configurationDone", None), ("stackTrace", THREAD), ("scopes", {"frameId": 1})]
+    requests = [request(seq, *one) for seq, one in enumerate(started, 2)]
+    yield FIRST + b"".join(frames_of(requests)), b'"request_seq":5,'
+    for start in range(6, count + 6, 100):
+        requests = [request(seq, *asked[seq % len(asked)]) for seq in range(start, start + 100)]
+        yield b"".join(frames_of(requests)), b'"request_seq":%d,' % (start + 99)
 
 
 def emptied(count):
@@ -231,8 +249,12 @@ def emptied(count):
 
 
 def steady():
+    """A block that each message leaves behind, however small, shows: no clause says that a drop by hand gives back all that it
+    is given."""
     for of, pieces, most, name in [
-        ("requests", threads_asked, 100000, "memory does not grow with the input"),
+        ("requests", asked_often(THREADS), 1000000, "memory does not grow with the input"),
+        ("arguments", asked_often(ARGUMENTS), 1000000, "memory does not grow with arguments"),
+        ("requests of what is shown", looked_at, 200000, "memory does not grow with what is told"),
         ("sources that are emptied", emptied, 50000, "memory does not grow with sources without breakpoints"),
     ]:
         few, many = peak(pieces(100)), peak(pieces(most))
