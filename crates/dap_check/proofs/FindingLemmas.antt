@@ -1,18 +1,21 @@
 -- All lines that break a rule: one line more, and the first of them.
 use Rattle.std.proofs.Common.{◌≡◌, List, [], ◌∷◌, ◌++◌, Bool, true, Option, Some, None, refl, sym, ap, ◌∙◌, subst}
 use Rattle.std.proofs.lemmas.List.{append_assoc, append-nil}
-use Rattle.dap_command.specs.declared.gathering.GatheredReferences.{GatheredReferences}
+use Rattle.std.specs.Prelude.{◌&&◌, false, is_none}
 use Rattle.dap_shape.specs.Faults.{fault_in}
 use Rattle.dap_check.specs.Findings.{finding_at, findings_after, findings, first_of, AreSound}
 use Rattle.dap_check.specs.Legal.{least_broken, IsLegal, IsVerdict}
-use Rattle.dap_check.specs.PrivateBare.{IsReadAs}
-use Rattle.dap_check.specs.declared.line.Form.{Form}
+use Rattle.dap_check.specs.Checking.{IsBroken, IsFound}
+use Rattle.dap_check.specs.PrivateJudged.{rule_in}
+use Rattle.dap_check.specs.declared.found.Broken.{Broken}
+use Rattle.dap_check.specs.declared.found.Broken.TheVariants.{Rule as OfRule, Body as OfBody}
+use Rattle.dap_check.specs.declared.found.CheckMode.{CheckMode}
+use Rattle.dap_check.specs.declared.found.LineFound.{LineFound}
 use Rattle.dap_check.specs.declared.line.Line.{Line}
 use Rattle.dap_check.specs.declared.rule.AnySeq.{AnySeq}
 use Rattle.dap_check.specs.declared.rule.Checked.{Checked}
 use Rattle.dap_check.specs.declared.rule.Finding.{Finding}
 use Rattle.dap_check.specs.declared.rule.Rule.{Rule}
-use Rattle.dap_check.proofs.BareLemmas.{least_as, number_as}
 use Rattle.dap_check.proofs.LegalLemmas.{legal_push, legal_nil}
 
 module _ (any_seq : AnySeq) where
@@ -25,16 +28,6 @@ module _ (any_seq : AnySeq) where
 
   findings_push : (lines : List Line) (last : Line) → findings any_seq (lines ++ last ∷ []) ≡ findings any_seq lines ++ finding_at last.number (least_broken any_seq lines last)
   findings_push lines last = findings_append [] lines (last ∷ []) ∙ ap (λ z. findings any_seq lines ++ z) (append-nil (finding_at last.number (least_broken any_seq lines last)))
-
-  -- however the last line was read
-  pub found_more : (lines : List Line) (form : Form) (given : GatheredReferences) (read real : Line) → IsReadAs form given read real → (broken : Option Rule) → broken ≡ least_broken any_seq lines read
-      → (old new : List Finding) → old ≡ findings any_seq lines → new ≡ old ++ finding_at read.number broken → new ≡ findings any_seq (lines ++ real ∷ [])
-  found_more lines form given read real is broken e old new was more =
-      more
-      ∙ ap (λ z. z ++ finding_at read.number broken) was
-      ∙ ap (λ n. findings any_seq lines ++ finding_at n broken) (number_as form given read real is)
-      ∙ ap (λ o. findings any_seq lines ++ finding_at real.number o) (e ∙ least_as any_seq lines form given read real is)
-      ∙ sym (findings_push lines real)
 
   -- ---- the first
 
@@ -56,7 +49,36 @@ module _ (any_seq : AnySeq) where
   pub told_first : (lines : List Line) (told : Checked) → told ≡ first_of (findings any_seq lines) → IsVerdict any_seq lines told
   told_first lines told e = subst (IsVerdict any_seq lines) (sym e) (first_is_the_verdict lines)
 
+-- ---- a line more
+
+rule_found : (mode : CheckMode) (earlier : List Line) (line : Line) (broken : Option Broken) → IsBroken mode earlier line broken → rule_in broken ≡ least_broken mode.any_seq earlier line
+rule_found mode earlier line None is = sym is.0
+rule_found mode earlier line (Some (OfRule rule)) is = sym is
+rule_found mode earlier line (Some (OfBody fault)) is = sym is.0
+
+pub found_more : (mode : CheckMode) (lines : List Line) (line : Line) (found : LineFound) → IsFound mode lines line found → (old new : List Finding) → old ≡ findings mode.any_seq lines → new ≡ old ++ finding_at found.number (rule_in found.broken)
+    → new ≡ findings mode.any_seq (lines ++ line ∷ [])
+found_more mode lines line found is old new was more =
+    more
+    ∙ ap (λ z. z ++ finding_at found.number (rule_in found.broken)) was
+    ∙ ap (λ n. findings mode.any_seq lines ++ finding_at n (rule_in found.broken)) is.numbered
+    ∙ ap (λ o. findings mode.any_seq lines ++ finding_at line.number o) (rule_found mode lines line found.broken is.broken)
+    ∙ sym (findings_push mode.any_seq lines line)
+
 -- ---- messages without a fault
+
+both_true : (a b : Bool) → (a && b) ≡ true → a ≡ true
+both_true true b e = refl
+both_true false b e = absurd (cc e)
+
+neither_true : (a : Bool) → (a && false) ≡ true → ⊥
+neither_true true e = absurd (cc e)
+neither_true false e = absurd (cc e)
+
+-- it was seen where bodies count, and nothing is broken
+pub found_sound : (mode : CheckMode) (earlier : List Line) (line : Line) (broken : Option Broken) → IsBroken mode earlier line broken → (mode.bodies && is_none broken) ≡ true → fault_in line.message.kind ≡ None
+found_sound mode earlier line None is seen = is.1 (both_true mode.bodies true seen)
+found_sound mode earlier line (Some broken) is seen = absurd (neither_true mode.bodies seen)
 
 pub sound_more : (lines : List Line) (sound : List Bool) (line : Line) (is_sound : Bool) → (is_sound ≡ true → fault_in line.message.kind ≡ None) → AreSound lines sound → AreSound (lines ++ line ∷ []) (sound ++ is_sound ∷ [])
 sound_more [] [] line is_sound faultless are = (faultless, tt)

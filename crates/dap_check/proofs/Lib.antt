@@ -13,6 +13,7 @@ pub mod Listed
 pub mod Outcomes
 pub mod Lines
 pub mod Judged
+pub mod JudgedLines
 pub mod Splits
 pub mod OneVerdict
 pub mod OneReading

@@ -12,3 +12,5 @@ pub mod ReadingLaws
 pub mod PrivateKept
 pub mod PrivateOpen
 pub mod PrivateBare
+pub mod Checking
+pub mod PrivateJudged

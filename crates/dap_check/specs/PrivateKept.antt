@@ -1,5 +1,5 @@
 -- What the checker keeps of the lines so far, and what that tells of them.
--- Only private clauses and proofs cite this file.
+-- Only private clauses, proofs and `HasTaken` of `Checking` cite this file.
 use Rattle.std.specs.Prelude.{◌≡◌, ℕ, List, [], ◌∷◌, ◌++◌, Bool, true, false, not, ◌&&◌, ◌||◌, if◌then◌else◌, count_by, codes, bytes_eq, Option, Some, None, option_map, filter, Vec}
 use Rattle.std.specs.List.{list_any}
 use Rattle.std.specs.BTreeMap as tree
@@ -20,9 +20,7 @@ use Rattle.dap_check.specs.declared.offer.Offer.{Offer}
 use Rattle.dap_check.specs.declared.pending.Pending.{Pending}
 use Rattle.dap_check.specs.declared.references.References.{References}
 use Rattle.dap_check.specs.declared.phases.Phases.{Phases}
-use Rattle.dap_check.specs.Findings.{findings, AreSound, request_of, open_requests, is_open_as}
-use Rattle.dap_check.specs.declared.checking.Progress.{Progress}
-use Rattle.dap_check.specs.declared.rule.AnySeq.{AnySeq}
+use Rattle.dap_check.specs.Findings.{request_of, open_requests, is_open_as}
 use Rattle.dap_check.specs.declared.rule.OpenRequest.{OpenRequest}
 use Rattle.dap_check.specs.declared.seen.Seen.{Seen}
 use Rattle.dap_check.specs.declared.waiting.Waiting.{Waiting}
@@ -119,9 +117,3 @@ pub record IsSeen (seen : Seen) (earlier : List Line) : Type 0 where
   pub phases : ArePhases seen.phases earlier
   pub offer : IsOffered seen.offer earlier
   pub references : AreReferences seen.references earlier
-
--- how far checking has come
-pub record IsProgress (any_seq : AnySeq) (progress : Progress) (lines : List Line) : Type 0 where
-  pub seen : IsSeen progress.seen lines
-  pub found : progress.findings.items ≡ findings any_seq lines
-  pub sound : AreSound lines progress.sound.items

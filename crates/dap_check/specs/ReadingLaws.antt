@@ -1,6 +1,6 @@
 -- That a text is read in one way, and how a transcript grows. What a line is stands in `Transcript`.
-use Rattle.std.specs.Prelude.{◌≡◌, ◌≢◌, ℕ, ◌+◌, ◌<◌, List, [], ◌∷◌, ◌++◌, length}
-use Rattle.dap_check.specs.Transcript.{IsLine, AreLines, Refuses}
+use Rattle.std.specs.Prelude.{◌≡◌, ◌≢◌, ◌⊎◌, ℕ, ◌+◌, ◌<◌, List, [], ◌∷◌, ◌++◌, length}
+use Rattle.dap_check.specs.Transcript.{IsLine, AreLines, Refuses, FirstRefused}
 use Rattle.dap_check.specs.declared.checking.CheckFault.{CheckFault}
 use Rattle.dap_check.specs.declared.checking.CheckFault.TheVariants.{OutOfMemory}
 use Rattle.dap_check.specs.declared.line.Line.{Line}
@@ -13,6 +13,11 @@ pub record TextsHaveOneLine : Type 0 where
 -- texts have one transcript at most
 abbrev pub TextsHaveOneTranscript : Type 0
 TextsHaveOneTranscript = (number : ℕ) (texts : List (List ℕ)) (lines others : List Line) → AreLines number texts lines → AreLines number texts others → lines ≡ others
+
+-- texts are refused at one place for one cause, and nowhere where they have a transcript; but for memory
+pub record TextsHaveOneFault : Type 0 where
+  pub one : (texts : List (List ℕ)) (told fault : CheckFault) → FirstRefused texts told → FirstRefused texts fault → fault ≢ OutOfMemory → (told ≡ fault) ⊎ (told ≡ OutOfMemory)
+  pub none : (texts : List (List ℕ)) (lines : List Line) (fault : CheckFault) → AreLines 1 texts lines → FirstRefused texts fault → fault ≡ OutOfMemory
 
 -- the texts before have these lines
 pub record TranscriptsGrow : Type 0 where

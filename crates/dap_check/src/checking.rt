@@ -1,29 +1,24 @@
 //! Whether a transcript is legal, and all that is found in it.
-ghost use Rattle.std.specs.Prelude.{◌≡◌, ◌≢◌, ◌⊎◌, ◌+◌, ◌-◌, ◌^◌, ◌<◌, ◌≤◌, ◌∷◌, ◌++◌, [], List, drop, OnOk, IfOk, IfErr, IsErrAnd, IsTrue, MatchResult};
+ghost use Rattle.std.specs.Prelude.{◌≡◌, ◌≢◌, ◌⊎◌, ◌+◌, ◌-◌, ◌×◌, ◌^◌, ◌<◌, ◌∷◌, ◌++◌, [], List, ℕ, length, OnOk, IfOk, IfErr, IsErrAnd, MatchResult};
 ghost use Rattle.std.specs.Str.Lines.{lines};
-ghost use Rattle.dap_shape.specs.Faults.{fault_in};
-ghost use Rattle.dap_check.specs.PrivateBare.{IsReadAs};
-ghost use Rattle.dap_check.specs.PrivateKept.{IsProgress};
-ghost use Rattle.dap_check.specs.PrivateOpen.{AreFrom};
-ghost use Rattle.dap_check.specs.Findings.{finding_at, first_of, IsReport};
+ghost use Rattle.dap_check.specs.Checking.{taken_by, IsFound};
+ghost use Rattle.dap_check.specs.Findings.{finding_at, findings, first_of, AreSound, IsReport};
 ghost use Rattle.dap_check.specs.Legal.{IsVerdict};
+ghost use Rattle.dap_check.specs.PrivateJudged.{rule_in, IsProgress};
 ghost use Rattle.dap_check.specs.Rules.{of_both_if};
-ghost use Rattle.dap_check.specs.Transcript.{IsLine, AreLines, Refuses, FirstRefused};
+ghost use Rattle.dap_check.specs.Transcript.{AreLines, Refuses, FirstRefused};
 ghost use Rattle.dap_check.specs.declared.checking.CheckFault.{CheckFault};
+ghost use Rattle.dap_check.specs.declared.found.CheckMode.{CheckMode};
 ghost use Rattle.dap_check.specs.declared.line.Line.{Line as TheLine};
 ghost use Rattle.dap_check.specs.declared.rule.AnySeq.{AnySeq};
 ghost use Rattle.dap_check.specs.declared.rule.Checked.{Checked};
 
+use crate::checker::Checker;
 use crate::cutting::split_line;
-use crate::line::{Form, Line};
-use crate::reading::read_bare;
-use crate::rule::{AnySeq, Checked, Finding, Report, Rule};
-use crate::seen::Seen;
-use crate::unanswered::in_order;
-use dap_command::GatheredReferences;
+use crate::found::{Broken, CheckMode, LineFound};
+use crate::rule::{AnySeq, Checked, Finding, Report};
 use dap_envelope::BodyRefusal;
 use dap_envelope::laws::each_body_is_one;
-use dap_json::object_reader::Scratch;
 use std::alloc::{AllocError, Global};
 use thiserror::Error;
 
@@ -55,12 +50,12 @@ impl From<AllocError> for CheckFault {
 fn push_broken(
     findings: &mut Vec<Finding>,
     line: u64,
-    broken: Option<Rule>,
+    broken: &Option<Broken>,
 ) -> Result<(), AllocError>
-    ensures { OnOk result (findings.new.items ≡ findings.old.items ++ finding_at line broken) }
+    ensures { OnOk result (findings.new.items ≡ findings.old.items ++ finding_at line (rule_in broken.now)) }
 {
-    if let Some(rule) = broken {
-        findings.push(Finding { line, rule })?;
+    if let Some(Broken::Rule(rule)) = broken {
+        findings.push(Finding { line, rule: *rule })?;
     }
     Ok(())
 }
@@ -68,7 +63,7 @@ fn push_broken(
 /// How far checking has come.
 #[derive(Drop)]
 pub(crate) struct Progress {
-    pub(crate) seen: Seen,
+    pub(crate) checker: Checker,
     /// The lines so far that break a rule, in order.
     pub(crate) findings: Vec<Finding>,
     /// Of each line so far, whether it was seen that its message has no fault.
@@ -76,84 +71,51 @@ pub(crate) struct Progress {
 }
 
 impl Progress {
-    fn new(alloc: Global) -> Progress
-        ensures progress { (any_seq : AnySeq) → IsProgress any_seq result [] }
-        ensures none { result.seen.counts.client + result.seen.counts.adapter ≡ 0 }
+    fn new(alloc: Global, mode: CheckMode) -> Progress
+        ensures progress { IsProgress mode [] [] result }
+        ensures none { taken_by result.checker ≡ 0 }
     {
         Progress {
-            seen: Seen::new(alloc),
+            checker: Checker::open(alloc, mode),
             findings: Vec::new(alloc),
             sound: Vec::new(alloc),
         }
     }
 
-    /// Judges one more line, which may be read without its tree, and takes note of it.
-    fn take(
-        &mut self,
-        alloc: Global,
-        any_seq: AnySeq,
-        line: &Line,
-        form: Form,
-        given: &GatheredReferences,
-        is_sound: bool,
-    ) -> Result<(), AllocError>
-        requires { self.old.seen.counts.client + self.old.seen.counts.adapter < 2 ^ 64 - 1 }
-        ensures progress { OnOk result ((lines : List TheLine) (real : TheLine) → IsReadAs form given.now line.now real → (IsTrue is_sound → fault_in real.message.kind ≡ None) → IsProgress any_seq self.old lines → IsProgress any_seq self.new (lines ++ real ∷ [])) }
-        ensures room { OnOk result (self.new.seen.counts.client + self.new.seen.counts.adapter ≤ self.old.seen.counts.client + self.old.seen.counts.adapter + 1) }
+    /// Keeps what was found of a line.
+    fn keep(&mut self, mode: CheckMode, found: &LineFound) -> Result<(), AllocError>
+        ensures found { OnOk result ((lines : List TheLine) (line : TheLine) → IsFound mode lines line found.now → self.old.findings.items ≡ findings mode.any_seq lines → self.new.findings.items ≡ findings mode.any_seq (lines ++ line ∷ [])) }
+        ensures sound { OnOk result ((lines : List TheLine) (line : TheLine) → IsFound mode lines line found.now → AreSound lines self.old.sound.items → AreSound (lines ++ line ∷ []) self.new.sound.items) }
+        ensures checker { self.new.checker ≡ self.old.checker }
     {
-        let broken = self.seen.least_broken(any_seq, line);
-        push_broken(&mut self.findings, line.number, broken)?;
-        self.sound.push(is_sound)?;
-        self.seen.note(alloc, line, form, given)
+        push_broken(&mut self.findings, found.number, &found.broken)?;
+        self.sound.push(mode.bodies && found.broken.is_none())
+    }
+
+    /// Takes the text of the next line.
+    fn take(&mut self, alloc: Global, mode: CheckMode, text: &[u8]) -> Result<(), CheckFault>
+        requires { taken_by self.old.checker < 2 ^ 64 - 1 }
+        ensures progress { OnOk result ((texts : List (List ℕ)) (lines : List TheLine) → IsProgress mode texts lines self.old → (more : List TheLine) × IsProgress mode (texts ++ text.now ∷ []) more self.new) }
+        ensures one { OnOk result (taken_by self.new.checker ≡ taken_by self.old.checker + 1) }
+        ensures refused { IfErr result (λ fault. Refuses (taken_by self.old.checker + 1) text.now fault × (0 < length text.now)) }
+    {
+        match self.checker.line(alloc, text)? {
+            None => Ok(()),
+            Some(found) => Ok(self.keep(mode, &found)?),
+        }
     }
 }
 
-/// The same of the text of a line.
-fn take_text(
-    alloc: Global,
-    scratch: &mut Scratch,
-    given: &mut GatheredReferences,
-    progress: &mut Progress,
-    any_seq: AnySeq,
-    bodies: bool,
-    number: u64,
-    text: &[u8],
-) -> Result<(), CheckFault>
-    requires { progress.old.seen.counts.client + progress.old.seen.counts.adapter < 2 ^ 64 - 1 }
-    ensures progress { OnOk result ((line : TheLine) × IsLine number text.now line × ((lines : List TheLine) → IsProgress any_seq progress.old lines → IsProgress any_seq progress.new (lines ++ line ∷ []))) }
-    ensures room { OnOk result (progress.new.seen.counts.client + progress.new.seen.counts.adapter ≤ progress.old.seen.counts.client + progress.old.seen.counts.adapter + 1) }
-    ensures refused { IfErr result (Refuses number text.now) }
-{
-    let read = read_bare(alloc, scratch, given, bodies, number, text)?;
-    progress.take(alloc, any_seq, &read.line, read.form, given, read.is_sound)?;
-    Ok(())
-}
-
 /// All lines, in one pass.
-fn pass(alloc: Global, bytes: &[u8], any_seq: AnySeq, bodies: bool) -> Result<Progress, CheckFault>
-    ensures progress { IfOk result (λ progress. (transcript : List TheLine) × AreLines 1 (lines bytes.now) transcript × IsProgress any_seq progress transcript) }
+fn pass(alloc: Global, bytes: &[u8], mode: CheckMode) -> Result<Progress, CheckFault>
+    ensures progress { IfOk result (λ progress. (transcript : List TheLine) × IsProgress mode (lines bytes.now) transcript progress) }
     ensures refused { IfErr result (FirstRefused (lines bytes.now)) }
 {
-    let mut scratch = Scratch::new(alloc);
-    let mut given = GatheredReferences::new(alloc);
-    let mut progress = Progress::new(alloc);
+    let mut progress = Progress::new(alloc, mode);
     let mut rest = bytes;
-    let mut number = 0;
     while !rest.is_empty() {
         let (text, later) = split_line(rest);
-        number += 1;
-        if !text.is_empty() {
-            take_text(
-                alloc,
-                &mut scratch,
-                &mut given,
-                &mut progress,
-                any_seq,
-                bodies,
-                number,
-                text,
-            )?;
-        }
+        progress.take(alloc, mode, text)?;
         rest = later;
     }
     Ok(progress)
@@ -161,14 +123,14 @@ fn pass(alloc: Global, bytes: &[u8], any_seq: AnySeq, bodies: bool) -> Result<Pr
 
 /// What was found, with the requests that nothing has answered.
 fn report(alloc: Global, progress: Progress) -> Result<Report, CheckFault>
-    ensures { (any_seq : AnySeq) (lines : List TheLine) → AreFrom 1 lines → IsProgress any_seq progress lines → MatchResult result (IsReport any_seq lines) (λ fault. fault ≡ CheckFault.OutOfMemory) }
+    ensures { (mode : CheckMode) (texts : List (List ℕ)) (lines : List TheLine) → IsProgress mode texts lines progress → MatchResult result (IsReport mode.any_seq lines) (λ fault. fault ≡ CheckFault.OutOfMemory) }
 {
     let Progress {
-        seen,
+        checker,
         findings,
         sound,
     } = progress;
-    match in_order(alloc, seen.pending) {
+    match checker.unanswered(alloc) {
         Ok(unanswered) => Ok(Report {
             findings,
             unanswered,
@@ -215,7 +177,12 @@ pub fn check_by_side(alloc: Global, bytes: &[u8], any_seq: AnySeq) -> Result<Che
 {
     // A law for the proof: no line is both a message and refused.
     each_body_is_one();
-    match pass(alloc, bytes, any_seq, false) {
+    let mode = CheckMode {
+        any_seq,
+        bodies: false,
+        whole: false,
+    };
+    match pass(alloc, bytes, mode) {
         Ok(progress) => Ok(first(&progress.findings)),
         Err(fault) => Err(fault),
     }
@@ -240,7 +207,12 @@ pub fn check_all(
 {
     // A law for the proof: no line is both a message and refused.
     each_body_is_one();
-    match pass(alloc, bytes, any_seq, bodies) {
+    let mode = CheckMode {
+        any_seq,
+        bodies,
+        whole: false,
+    };
+    match pass(alloc, bytes, mode) {
         Ok(progress) => report(alloc, progress),
         Err(fault) => Err(fault),
     }

@@ -1,7 +1,7 @@
 //! Laws of the definitions, each on a function with nothing to run.
 ghost use Rattle.dap_check.specs.Laws.{EachTranscriptHasOneVerdict, SomeIsAPlace, OpenIsAPlace, FirstIsAPlace, LastIsAPlace};
 ghost use Rattle.dap_check.specs.FindingLaws.{FindingsAreBrokenRules, FirstFindingIsTheVerdict, FindingsAreInOrder, OpenRequestsAreUnanswered, OpenRequestsWait};
-ghost use Rattle.dap_check.specs.ReadingLaws.{TextsHaveOneLine, TextsHaveOneTranscript, TranscriptsGrow};
+ghost use Rattle.dap_check.specs.ReadingLaws.{TextsHaveOneLine, TextsHaveOneTranscript, TextsHaveOneFault, TranscriptsGrow};
 ghost use Rattle.dap_check.specs.Places.{AnswerIsByPlaces, FirstRequestIsByPlaces, OfferIsByPlaces, ReferencesAreByPlaces};
 
 use dap_envelope::laws::each_body_is_one;
@@ -30,10 +30,11 @@ pub fn rules_are_told_by_places()
 {}
 
 /// A text is read in one way: it has one line at most, and none where it is refused. Texts have one transcript at most, and
-/// one text more makes it one line longer, if that has bytes.
+/// one text more makes it one line longer, if that has bytes; where they have none, they are refused at one place for one cause.
 pub fn texts_are_read_in_one_way()
     ensures line { TextsHaveOneLine }
     ensures transcript { TextsHaveOneTranscript }
+    ensures fault { TextsHaveOneFault }
     ensures grows { TranscriptsGrow }
 {
     // A law for the proof: no text is two messages.

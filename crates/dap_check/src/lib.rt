@@ -5,10 +5,13 @@
 //! public contracts of `dap_message` and `dap_shape`, and on those by which `dap_json` reads what stands at a key.
 #![tactic(auto)]
 
+mod checker;
 mod checking;
 mod counts;
 mod cutting;
 mod first;
+mod found;
+mod judging;
 pub mod laws;
 mod line;
 mod offer;
@@ -22,8 +25,10 @@ mod unanswered;
 mod waiting;
 pub mod words;
 
+pub use checker::Checker;
 pub use checking::{CheckFault, check, check_all, check_by_side};
 pub use cutting::split_line;
+pub use found::{Broken, CheckMode, LineFound};
 pub use line::{Line, Side};
 pub use reading::read_line;
 pub use rule::{AnySeq, Checked, Finding, OpenRequest, Report, Rule};

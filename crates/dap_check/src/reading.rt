@@ -3,7 +3,7 @@
 //! Most messages are long for their trees' sake, and a tree costs most of the time of reading. The rules look at few of
 //! them: at what `initialize` and `capabilities` offer, and at what a request names. The references that a response gives
 //! are gathered with no tree.
-ghost use Rattle.std.specs.Prelude.{◌≡◌, drop, false, MatchOption, IfSome, IfOk, IfErr, IsTrue};
+ghost use Rattle.std.specs.Prelude.{◌≡◌, drop, true, false, MatchOption, IfSome, IfOk, IfErr, IsTrue};
 ghost use Rattle.dap_envelope.specs.Heading.{IsHeadingOf, IsKindOf};
 ghost use Rattle.dap_envelope.specs.Meaning.{Msg};
 ghost use Rattle.dap_envelope.specs.declared.message.Kind.{Kind as TheKind};
@@ -14,16 +14,16 @@ ghost use Rattle.dap_check.specs.Transcript.{side_of, IsLine, Refuses};
 ghost use Rattle.dap_check.specs.declared.line.Line.{Line as TheLine};
 
 use crate::checking::CheckFault;
+use crate::found::CheckMode;
 use crate::line::{Form, Line, Side};
 use crate::words;
 use dap_command::GatheredReferences;
 use dap_envelope::{
-    BodyFault, Heading, HeadingKind, Kind, Message, read_heading_and_references, read_message,
-    read_message_with,
+    BodyFault, Heading, HeadingKind, Kind, Message, read_heading_and_references, read_message_with,
 };
 use dap_json::Text;
 use dap_json::object_reader::Scratch;
-use dap_shape::{message_fault, read_heading_and_shape};
+use dap_shape::read_heading_and_shape;
 use std::alloc::{AllocError, Global};
 
 /// Whose message a line has, and its body.
@@ -47,10 +47,24 @@ pub fn read_line(alloc: Global, number: u64, text: &[u8]) -> Result<Line, CheckF
     ensures line { IfOk result (IsLine number text.now) }
     ensures refused { IfErr result (Refuses number text.now) }
 {
+    let mut scratch = Scratch::new(alloc);
+    read_line_with(alloc, &mut scratch, number, text)
+}
+
+/// The same, with a scratch that other lines have used.
+pub(crate) fn read_line_with(
+    alloc: Global,
+    scratch: &mut Scratch,
+    number: u64,
+    text: &[u8],
+) -> Result<Line, CheckFault>
+    ensures line { IfOk result (IsLine number text.now) }
+    ensures refused { IfErr result (Refuses number text.now) }
+{
     let Some((side, body)) = split_side(text) else {
         return Err(CheckFault::BadLine { line: number });
     };
-    match read_message(alloc, body) {
+    match read_message_with(alloc, body, scratch) {
         Ok(message) => Ok(Line {
             number,
             side,
@@ -171,7 +185,8 @@ pub(crate) struct BodyRead {
     pub(crate) is_sound: bool,
 }
 
-/// The message that a body is, without its tree where no rule looks at it; what it gives is gathered then.
+/// The message that a body is, without its tree where no rule looks at it; what it gives is gathered then, and it is looked
+/// out for faults on the way.
 fn read_body(
     alloc: Global,
     scratch: &mut Scratch,
@@ -189,12 +204,10 @@ fn read_body(
             is_sound,
         });
     }
-    let message = read_message_with(alloc, body, scratch)?;
-    let is_sound = bodies && message_fault(alloc, &message.kind)?.is_none();
     Ok(BodyRead {
-        message,
+        message: read_message_with(alloc, body, scratch)?,
         form: Form::Whole,
-        is_sound,
+        is_sound: false,
     })
 }
 
@@ -238,4 +251,27 @@ pub(crate) fn read_bare(
         }),
         Err(BodyFault::OutOfMemory) => Err(CheckFault::OutOfMemory),
     }
+}
+
+/// The line of this number, with its tree where that is asked for.
+pub(crate) fn read_in(
+    alloc: Global,
+    scratch: &mut Scratch,
+    given: &mut GatheredReferences,
+    mode: CheckMode,
+    number: u64,
+    text: &[u8],
+) -> Result<LineRead, CheckFault>
+    ensures line { IfOk result (λ read. (real : TheLine) × IsLine number text.now real × IsReadAs read.form given.new read.line real × (IsTrue read.is_sound → fault_in real.message.kind ≡ None)) }
+    ensures whole { IfOk result (λ read. mode.whole ≡ true → read.form ≡ Form.Whole) }
+    ensures refused { IfErr result (Refuses number text.now) }
+{
+    if mode.whole {
+        return Ok(LineRead {
+            line: read_line_with(alloc, scratch, number, text)?,
+            form: Form::Whole,
+            is_sound: false,
+        });
+    }
+    read_bare(alloc, scratch, given, mode.bodies, number, text)
 }

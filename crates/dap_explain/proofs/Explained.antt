@@ -1,37 +1,161 @@
 -- What is explained is the line of that number after the lines before it.
-use Rattle.std.proofs.Common.{◌≡◌, ◌≢◌, ℕ, ◌+◌, ◌<◌, ◌==◌, List, [], ◌∷◌, ◌++◌, length, Bool, true, false, Option, None, Result, Ok, Err, refl, sym, ap, ◌∙◌, subst, inl, inr, arith}
-use Rattle.std.specs.Prelude.{◌||◌, IfErr, IsErrAnd}
+use Rattle.std.proofs.Common.{◌≡◌, ◌≢◌, ℕ, ◌+◌, ◌<◌, ◌≤◌, ◌==◌, List, [], ◌∷◌, ◌++◌, length, Bool, true, false, Option, None, Result, Ok, Err, refl, sym, ap, ◌∙◌, subst, inl, inr, zero, suc, arith}
+use Rattle.std.specs.Prelude.{◌||◌, IfErr, IsErrAnd, take, drop}
 use Rattle.std.specs.List.{list_any}
 use Rattle.std.specs.Str.Lines.{lines}
 use Rattle.std.proofs.lemmas.Bool.Decides.{nat_tests}
-use Rattle.std.proofs.lemmas.List.{length-append}
+use Rattle.std.proofs.lemmas.List.{length-append, append_assoc, take-append-drop, take_all, take_at}
 use Rattle.dap_explain.specs.PrivateNotes.{AreNotes}
 use Rattle.dap_explain.specs.PrivateWalks.{IsWalk, IsAt, IsExplained}
 use Rattle.dap_explain.specs.Reasons.{reason_of}
-use Rattle.dap_check.specs.ReadingLaws.{TextsHaveOneLine, TextsHaveOneTranscript, TranscriptsGrow}
-use Rattle.dap_check.specs.Transcript.{IsLine, AreLines, Refuses, IsRefusedIn}
+use Rattle.dap_check.specs.ReadingLaws.{TextsHaveOneTranscript, TextsHaveOneFault, TranscriptsGrow}
+use Rattle.dap_check.specs.Transcript.{IsLine, AreLines, Refuses, FirstRefused, IsRefusedIn}
 use Rattle.dap_check.specs.declared.checking.CheckFault.{CheckFault}
-use Rattle.dap_check.specs.declared.checking.CheckFault.TheVariants.{BadLine, Body, OutOfMemory}
+use Rattle.dap_check.specs.declared.checking.CheckFault.TheVariants.{OutOfMemory}
 use Rattle.dap_check.specs.declared.line.Line.{Line}
 use Rattle.dap_check.specs.declared.rule.Rule.{Rule}
 use Rattle.dap_explain.specs.declared.notes.Notes.{Notes}
 use Rattle.dap_explain.specs.declared.reason.Reason.{Reason}
-use Rattle.dap_explain.proofs.Walked.{all_read, here, next_refused}
+use Rattle.dap_explain.proofs.Walked.{all_read, more, is_empty, next_refused}
 
-same_place : {X : Type 0} (b1 b2 : List X) (x1 x2 : X) (a1 a2 : List X) → b1 ++ x1 ∷ a1 ≡ b2 ++ x2 ∷ a2 → length b1 ≡ length b2 → (b1 ≡ b2) × (x1 ≡ x2)
-same_place [] [] x1 x2 a1 a2 e count = (refl, cc)
-same_place [] (y ∷ b2) x1 x2 a1 a2 e count = absurd (omega arith)
-same_place (y ∷ b1) [] x1 x2 a1 a2 e count = absurd (omega arith)
-same_place (y ∷ b1) (z ∷ b2) x1 x2 a1 a2 e count =
-    let h : y ≡ z = cc in
-    let rest : b1 ++ x1 ∷ a1 ≡ b2 ++ x2 ∷ a2 = cc in
-    let so = same_place b1 b2 x1 x2 a1 a2 rest (omega arith) in
-    let before = so.0 in
-    (cc (h, before), so.1)
+-- ---- lines and their numbers
 
--- ---- the text of a line
+-- a line of this number
+abbrev is_at : ℕ → Line → Bool
+is_at number line = line.number == number
 
-pub record Placed (n : ℕ) (texts : List (List ℕ)) (earlier : List Line) (line : Line) : Type 0 where
+has_last : (number : ℕ) (earlier : List Line) (line : Line) → line.number ≡ number → list_any (is_at number) (earlier ++ line ∷ []) ≡ false → ⊥
+has_last number [] line e none = absurd (grind (arith, nat_tests))
+has_last number (x ∷ earlier) line e none = has_last number earlier line e (first_is_not (is_at number x) (list_any (is_at number) (earlier ++ line ∷ [])) none).1
+  where
+    first_is_not : (a b : Bool) → (a || b) ≡ false → (a ≡ false) × (b ≡ false)
+    first_is_not true b e = absurd (cc e)
+    first_is_not false b e = (refl, e)
+
+-- the lines of texts before the number
+none_below : (n number : ℕ) (texts : List (List ℕ)) (read : List Line) → AreLines n texts read → n + length texts ≤ number → list_any (is_at number) read ≡ false
+none_below n number [] [] are few = refl
+none_below n number [] (line ∷ read) are few = absurd are
+none_below n number ([] ∷ texts) read are few = none_below (n + 1) number texts read are (omega (arith, few))
+none_below n number ((byte ∷ bytes) ∷ texts) [] are few = absurd are
+none_below n number ((byte ∷ bytes) ∷ texts) (line ∷ read) are few =
+    let later = none_below (n + 1) number texts read are.1 (omega (arith, few)) in
+    let here : is_at number line ≡ false = grind (arith, nat_tests, are.0.numbered) in
+    ap (λ b. b || list_any (is_at number) read) here ∙ later
+
+last_same : (xs ys : List Line) (x y : Line) → xs ++ x ∷ [] ≡ ys ++ y ∷ [] → (xs ≡ ys) × (x ≡ y)
+last_same [] [] x y e = (refl, cc)
+last_same [] (z ∷ ys) x y e = absurd (no_more ys y (cc e))
+  where
+    no_more : (zs : List Line) (z : Line) → [] ≡ zs ++ z ∷ [] → ⊥
+    no_more [] z e = absurd (cc e)
+    no_more (w ∷ zs) z e = absurd (cc e)
+last_same (z ∷ xs) [] x y e = absurd (no_more xs x (cc e))
+  where
+    no_more : (zs : List Line) (z : Line) → zs ++ z ∷ [] ≡ [] → ⊥
+    no_more [] z e = absurd (cc e)
+    no_more (w ∷ zs) z e = absurd (cc e)
+last_same (v ∷ xs) (w ∷ ys) x y e =
+    let h : v ≡ w = cc in
+    let rest : xs ++ x ∷ [] ≡ ys ++ y ∷ [] = cc in
+    let so = last_same xs ys x y rest in
+    let t = so.0 in
+    (cc (h, t), so.1)
+
+-- ---- what is answered
+
+module _ (one : TextsHaveOneTranscript) (faults : TextsHaveOneFault) (bytes : List ℕ) (number : ℕ) (rule : Rule) where
+  abbrev so_far : List (List ℕ)
+  so_far = take number (lines bytes)
+
+  pub refused_so : (result : Result (Option Reason) CheckFault) (fault : CheckFault) → result ≡ Err fault → FirstRefused so_far fault → IsExplained bytes number rule result
+  refused_so result fault is refused = record {
+    explains = λ earlier line are numbered. inr (is ∙ ap Err (faults.none so_far (earlier ++ line ∷ []) fault are refused));
+    absent = λ transcript are none. inr (is ∙ ap Err (faults.none so_far transcript fault are refused));
+    refuses = λ other says not. elim (faults.one so_far fault other refused says not) [ inl e ↦ inl (is ∙ ap Err e) | inr e ↦ inr (is ∙ ap Err e) ];
+    refused = subst (λ r. IfErr r (FirstRefused so_far)) (sym is) refused;
+  }
+
+  -- the lines up to the number are these, and none has it
+  pub none_so : (read : List Line) → AreLines 1 so_far read → list_any (is_at number) read ≡ false → IsExplained bytes number rule (Ok None)
+  none_so read are none = record {
+    explains = λ earlier line others numbered. absurd (has_last number earlier line numbered (ap (list_any (is_at number)) (one 1 so_far (earlier ++ line ∷ []) read others are) ∙ none));
+    absent = λ transcript others absent. inl refl;
+    refuses = λ fault says not. absurd (not (faults.none so_far read fault are says));
+    refused = tt;
+  }
+
+  -- the last of them has it
+  pub told_so : (read : List Line) (found : Line) → AreLines 1 so_far (read ++ found ∷ []) → found.number ≡ number → (told : Option Reason) → told ≡ reason_of rule read found → IsExplained bytes number rule (Ok told)
+  told_so read found are numbered told is = record {
+    explains = λ earlier line others at.
+        let same = last_same read earlier found line (one 1 so_far (read ++ found ∷ []) (earlier ++ line ∷ []) are others) in
+        inl (ap Ok (is ∙ ap (λ xs. reason_of rule xs found) same.0 ∙ ap (reason_of rule earlier) same.1));
+    absent = λ transcript others none. absurd (has_last number read found numbered (ap (list_any (is_at number)) (one 1 so_far (read ++ found ∷ []) transcript are others) ∙ none));
+    refuses = λ fault says not. absurd (not (faults.none so_far (read ++ found ∷ []) fault are says));
+    refused = tt;
+  }
+
+pub told_error : (result : Result (Option Reason) CheckFault) (told : CheckFault) → IsErrAnd result (λ fault. fault ≡ told) → result ≡ Err told
+told_error (Ok reason) told alike = absurd alike
+told_error (Err fault) told alike = ap Err alike
+
+-- ---- by how far the lines were read
+
+none_in : (number : ℕ) (texts : List (List ℕ)) (read : List Line) → AreLines 1 texts read → (length texts ≡ 0) ⊎ (1 + length texts ≤ number) → list_any (is_at number) read ≡ false
+none_in number [] [] are few = refl
+none_in number [] (line ∷ read) are few = absurd are
+none_in number (text ∷ texts) read are few = elim few [ inl none ↦ absurd (omega (arith, none)) | inr less ↦ none_below 1 number (text ∷ texts) read are less ]
+
+module _ (one : TextsHaveOneTranscript) (faults : TextsHaveOneFault) (grows : TranscriptsGrow) (bytes rest : List ℕ) (at : ℕ) (notes : Notes) (so : IsWalk bytes rest at notes) (number : ℕ) (rule : Rule) where
+  -- the lines end before the number
+  ended_so : length rest ≡ 0 → length so.before ≤ number → (length so.before ≡ 0) ⊎ (1 + length so.before ≤ number) → IsExplained bytes number rule (Ok None)
+  ended_so none few less =
+      let all : take number (lines bytes) ≡ so.before = ap (take number) (all_read bytes rest at notes so none) ∙ take_all number so.before few in
+      none_so one faults bytes number rule so.read (subst (λ texts. AreLines 1 texts so.read) (sym all) so.are) (none_in number so.before so.read so.are less)
+
+  pub empty_so : IsAt number rest at → length rest ≡ 0 → IsExplained bytes number rule (Ok None)
+  empty_so is none = elim is.ahead [
+    | inl first ↦ ended_so none (omega (arith, so.count, first)) (inl (omega (arith, so.count, first)))
+    | inr more ↦ ended_so none (omega (arith, so.count, more)) (inr (omega (arith, so.count, more)))
+  ]
+
+  nothing_so : number ≡ 0 → IsExplained bytes number rule (Ok None)
+  nothing_so none = none_so one faults bytes number rule [] (subst (λ n. AreLines 1 (take n (lines bytes)) []) (sym none) tt) refl
+
+  pub past_so : IsAt number rest at → at ≢ number → IsExplained bytes number rule (Ok None)
+  past_so is other = elim is.all [
+    | inr none ↦ empty_so is none
+    | inl below ↦ elim is.ahead [ inl first ↦ nothing_so (omega (arith, below, first, other)) | inr more ↦ absurd (omega (arith, below, more, other)) ]
+  ]
+
+  module _ (text later_text : List ℕ) (first_line : lines rest ≡ text ∷ lines later_text) (reached : at ≡ number) where
+    -- the lines up to the number
+    just : take number (lines bytes) ≡ so.before ++ text ∷ []
+    just =
+        let count : length (so.before ++ text ∷ []) ≡ number = omega (arith, so.count, reached, length-append so.before (text ∷ [])) in
+        ap (take number) (more bytes rest at notes so text later_text first_line) ∙ take_at (so.before ++ text ∷ []) (lines later_text) number count
+
+    pub no_text_so : length text ≡ 0 → IsExplained bytes number rule (Ok None)
+    no_text_so none =
+        let are : AreLines 1 (so.before ++ text ∷ []) so.read = subst (λ t. AreLines 1 (so.before ++ t ∷ []) so.read) (sym (is_empty text none)) (grows.skipped 1 so.before so.read so.are) in
+        none_so one faults bytes number rule so.read (subst (λ texts. AreLines 1 texts so.read) (sym just) are) (none_below 1 number so.before so.read so.are (omega (arith, so.count, reached)))
+
+    pub told_here : 0 < length text → (found : Line) → IsLine number text found → (told : Option Reason) → ((earlier : List Line) → AreNotes notes earlier → told ≡ reason_of rule earlier found) → IsExplained bytes number rule (Ok told)
+    told_here some found is told tells =
+        let e : number ≡ 1 + length so.before = omega (arith, so.count, reached) in
+        let are = grows.more 1 so.before so.read text found so.are some (subst (λ n. IsLine n text found) e is) in
+        told_so one faults bytes number rule so.read found (subst (λ texts. AreLines 1 texts (so.read ++ found ∷ [])) (sym just) are) is.numbered told (tells so.read so.so_far)
+
+    pub unread_so : 0 < length text → (result : Result (Option Reason) CheckFault) (fault : CheckFault) → Refuses number text fault → IsErrAnd result (λ told. told ≡ fault) → IsExplained bytes number rule result
+    unread_so some result fault says is =
+        refused_so one faults bytes number rule result fault (told_error result fault is)
+        (next_refused bytes rest at notes so text later_text first_line number fault (omega (arith, reached)) some (subst (λ n. Refuses n text fault) (sym reached) says))
+
+-- ---- what that says of a whole transcript
+
+-- where a line of a transcript stands among the texts
+record Placed (n : ℕ) (texts : List (List ℕ)) (earlier : List Line) (line : Line) : Type 0 where
   pub before : List (List ℕ)
   pub text : List ℕ
   pub after : List (List ℕ)
@@ -55,107 +179,48 @@ placed n ((byte ∷ bytes) ∷ texts) (x ∷ earlier) line later are =
     let e : n + 1 + length p.before ≡ n + length ((byte ∷ bytes) ∷ p.before) = omega arith in
     record { before = (byte ∷ bytes) ∷ p.before; text = p.text; after = p.after; split = ap (λ z. (byte ∷ bytes) ∷ z) p.split; has_bytes = p.has_bytes; are = (are.0, p.are); is = subst (λ m. IsLine m p.text line) e p.is }
 
--- ---- no line has the number
+-- the lines of the first of the texts
+record FirstLines (n k number : ℕ) (texts : List (List ℕ)) : Type 0 where
+  pub first : List Line
+  pub are : AreLines n (take k texts) first
+  pub none : list_any (is_at number) first ≡ false
 
-first_is_not : (a b : Bool) → (a || b) ≡ false → (a ≡ false) × (b ≡ false)
-first_is_not true b e = absurd (cc e)
-first_is_not false b e = (refl, e)
+either_false : (a b : Bool) → (a || b) ≡ false → (a ≡ false) × (b ≡ false)
+either_false true b e = absurd (cc e)
+either_false false b e = (refl, e)
 
-none_there : (n number : ℕ) (before : List (List ℕ)) (text : List ℕ) (after : List (List ℕ)) (transcript : List Line) → AreLines n (before ++ text ∷ after) transcript → 0 < length text → n + length before ≡ number
-    → list_any (λ line. line.number == number) transcript ≡ false → ⊥
-none_there n number [] [] after transcript are some e none = absurd (omega arith)
-none_there n number [] (byte ∷ bytes) after [] are some e none = absurd are
-none_there n number [] (byte ∷ bytes) after (line ∷ transcript) are some e none =
-    let wrong = (first_is_not (line.number == number) (list_any (λ x. x.number == number) transcript) none).0 in
-    let right : line.number ≡ number = are.0.numbered ∙ omega arith in
-    absurd (grind (arith, nat_tests))
-none_there n number ([] ∷ before) text after transcript are some e none = none_there (n + 1) number before text after transcript are some (omega arith) none
-none_there n number ((byte ∷ bytes) ∷ before) text after [] are some e none = absurd are
-none_there n number ((byte ∷ bytes) ∷ before) text after (line ∷ transcript) are some e none =
-    none_there (n + 1) number before text after transcript are.1 some (omega arith) (first_is_not (line.number == number) (list_any (λ x. x.number == number) transcript) none).1
+first_lines : (n k number : ℕ) (texts : List (List ℕ)) (read : List Line) → AreLines n texts read → list_any (is_at number) read ≡ false → FirstLines n k number texts
+first_lines n zero number texts read are none = record { first = []; are = tt; none = refl }
+first_lines n (suc k) number [] [] are none = record { first = []; are = tt; none = refl }
+first_lines n (suc k) number [] (line ∷ read) are none = absurd are
+first_lines n (suc k) number ([] ∷ texts) read are none = let so = first_lines (n + 1) k number texts read are none in record { first = so.first; are = so.are; none = so.none }
+first_lines n (suc k) number ((byte ∷ bytes) ∷ texts) [] are none = absurd are
+first_lines n (suc k) number ((byte ∷ bytes) ∷ texts) (line ∷ read) are none =
+    let each = either_false (is_at number line) (list_any (is_at number) read) none in
+    let so = first_lines (n + 1) k number texts read are.1 each.1 in
+    record { first = line ∷ so.first; are = (are.0, so.are); none = ap (λ b. b || list_any (is_at number) so.first) each.0 ∙ so.none }
 
--- ---- what is answered
+module _ (grows : TranscriptsGrow) (bytes : List ℕ) (number : ℕ) (rule : Rule) (result : Result (Option Reason) CheckFault) (so : IsExplained bytes number rule result) where
+  pub whole_explains : (earlier : List Line) (line : Line) (later : List Line) → AreLines 1 (lines bytes) (earlier ++ line ∷ later) → line.number ≡ number → (result ≡ Ok (reason_of rule earlier line)) ⊎ (result ≡ Err OutOfMemory)
+  whole_explains earlier line later are numbered =
+      let p = placed 1 (lines bytes) earlier line later are in
+      let count : length (p.before ++ p.text ∷ []) ≡ number = omega (arith, p.is.numbered, numbered, length-append p.before (p.text ∷ [])) in
+      let first : take number (lines bytes) ≡ p.before ++ p.text ∷ [] = ap (take number) (p.split ∙ sym (append_assoc p.before (p.text ∷ []) p.after)) ∙ take_at (p.before ++ p.text ∷ []) p.after number count in
+      so.explains earlier line (subst (λ texts. AreLines 1 texts (earlier ++ line ∷ [])) (sym first) (grows.more 1 p.before earlier p.text line p.are p.has_bytes p.is)) numbered
 
--- a transcript has no fault but want of memory
-other_fault : (law : TextsHaveOneLine) (grows : TranscriptsGrow) (bytes : List ℕ) (transcript : List Line) → AreLines 1 (lines bytes) transcript → (fault : CheckFault) → IsRefusedIn (lines bytes) fault → fault ≢ OutOfMemory → ⊥
-other_fault law grows bytes transcript are fault r other =
-    let there = grows.there 1 r.before r.text r.after transcript (subst (λ t. AreLines 1 t transcript) r.split are) r.has_bytes in
-    let e : 1 + length r.before ≡ length r.before + 1 = omega arith in
-    law.none (length r.before + 1) r.text fault there.0 r.refuses other (subst (λ n. IsLine n r.text there.0) e there.1)
+  pub whole_absent : (transcript : List Line) → AreLines 1 (lines bytes) transcript → list_any (is_at number) transcript ≡ false → (result ≡ Ok None) ⊎ (result ≡ Err OutOfMemory)
+  whole_absent transcript are none = let f = first_lines 1 number number (lines bytes) transcript are none in so.absent f.first f.are f.none
 
-memory_alone : (law : TextsHaveOneLine) (grows : TranscriptsGrow) (bytes : List ℕ) (transcript : List Line) → AreLines 1 (lines bytes) transcript → (fault : CheckFault) → IsRefusedIn (lines bytes) fault → fault ≡ OutOfMemory
-memory_alone law grows bytes transcript are (BadLine line) r = absurd (other_fault law grows bytes transcript are (BadLine line) r (λ e. absurd (cc e)))
-memory_alone law grows bytes transcript are (Body line cause) r = absurd (other_fault law grows bytes transcript are (Body line cause) r (λ e. absurd (cc e)))
-memory_alone law grows bytes transcript are OutOfMemory r = refl
-
--- a text that is refused
-pub refused_so : (law : TextsHaveOneLine) (grows : TranscriptsGrow) (bytes : List ℕ) (number : ℕ) (rule : Rule) (result : Result (Option Reason) CheckFault) (fault : CheckFault) → result ≡ Err fault → IsRefusedIn (lines bytes) fault → IsExplained bytes number rule result
-refused_so law grows bytes number rule result fault is refused = record {
-  explains = λ earlier line later are numbered. inr (is ∙ ap Err (memory_alone law grows bytes (earlier ++ line ∷ later) are fault refused));
-  absent = λ transcript are none. inr (is ∙ ap Err (memory_alone law grows bytes transcript are fault refused));
-  refused = subst (λ r. IfErr r (IsRefusedIn (lines bytes))) (sym is) refused;
+refused_whole : (bytes : List ℕ) (number : ℕ) (result : Result (Option Reason) CheckFault) → IfErr result (FirstRefused (take number (lines bytes))) → IfErr result (IsRefusedIn (lines bytes))
+refused_whole bytes number (Ok reason) refused = tt
+refused_whole bytes number (Err fault) refused = record {
+  before = refused.before;
+  text = refused.text;
+  after = refused.after ++ drop number (lines bytes);
+  split = sym (take-append-drop number (lines bytes)) ∙ ap (λ z. z ++ drop number (lines bytes)) refused.split ∙ append_assoc refused.before (refused.text ∷ refused.after) (drop number (lines bytes));
+  has_bytes = refused.has_bytes;
+  refuses = refused.refuses;
 }
 
-pub told_error : (result : Result (Option Reason) CheckFault) (told : CheckFault) → IsErrAnd result (λ fault. fault ≡ told) → result ≡ Err told
-told_error (Ok reason) told alike = absurd alike
-told_error (Err fault) told alike = ap Err alike
-
-module _ (bytes rest : List ℕ) (at : ℕ) (notes : Notes) (so : IsWalk bytes rest at notes) (number : ℕ) (rule : Rule) where
-  -- no line has the number
-  none_so : ((earlier : List Line) (line : Line) (later : List Line) → AreLines 1 (lines bytes) (earlier ++ line ∷ later) → line.number ≡ number → ⊥) → IsExplained bytes number rule (Ok None)
-  none_so none = record { explains = λ earlier line later are numbered. absurd (none earlier line later are numbered); absent = λ transcript are absent. inl refl; refused = tt }
-
-  past : IsAt number rest at → at ≢ number → (earlier : List Line) (line : Line) (later : List Line) → AreLines 1 (lines bytes) (earlier ++ line ∷ later) → line.number ≡ number → ⊥
-  past is other earlier line later are numbered =
-      let p = placed 1 (lines bytes) earlier line later are in
-      let n : 1 + length p.before ≡ number = omega (arith, p.is.numbered, numbered) in
-      elim is.all [
-        | inl below ↦ elim is.ahead [ inl one ↦ omega (arith, n, below, other, one) | inr more ↦ omega (arith, below, other, more) ]
-        | inr empty ↦
-            let all : so.before ≡ p.before ++ p.text ∷ p.after = sym (all_read bytes rest at notes so empty) ∙ p.split in
-            let many = ap length all ∙ length-append p.before (p.text ∷ p.after) in
-            elim is.ahead [ inl one ↦ omega (arith, so.count, many, n, one) | inr more ↦ omega (arith, so.count, many, n, more) ]
-      ]
-
-  pub past_so : IsAt number rest at → at ≢ number → IsExplained bytes number rule (Ok None)
-  past_so is other = none_so (past is other)
-
-  pub empty_so : IsAt number rest at → length rest ≡ 0 → IsExplained bytes number rule (Ok None)
-  empty_so is none = none_so λ earlier line later are numbered.
-      let p = placed 1 (lines bytes) earlier line later are in
-      let n : 1 + length p.before ≡ number = omega (arith, p.is.numbered, numbered) in
-      let all : so.before ≡ p.before ++ p.text ∷ p.after = sym (all_read bytes rest at notes so none) ∙ p.split in
-      let many = ap length all ∙ length-append p.before (p.text ∷ p.after) in
-      elim is.ahead [ inl one ↦ omega (arith, so.count, many, n, one) | inr more ↦ omega (arith, so.count, many, n, more) ]
-
-  module _ (text later_text : List ℕ) (first_line : lines rest ≡ text ∷ lines later_text) (reached : at ≡ number) where
-    -- the text before which they were read is that of the line
-    same_text : (earlier : List Line) (line : Line) (later : List Line) → AreLines 1 (lines bytes) (earlier ++ line ∷ later) → line.number ≡ number → AreLines 1 so.before earlier × IsLine number text line × (0 < length text)
-    same_text earlier line later are numbered =
-        let p = placed 1 (lines bytes) earlier line later are in
-        let count : length p.before ≡ length so.before = omega (arith, p.is.numbered, numbered, so.count) in
-        let alike = same_place p.before so.before p.text text p.after (lines later_text) (sym p.split ∙ here bytes rest at notes so text later_text first_line) count in
-        let n : 1 + length p.before ≡ number = omega (arith, p.is.numbered, numbered) in (
-          subst (λ b. AreLines 1 b earlier) alike.0 p.are,
-          subst (λ t. IsLine number t line) alike.1 (subst (λ m. IsLine m p.text line) n p.is),
-          subst (λ t. 0 < length t) alike.1 p.has_bytes,
-        )
-
-    pub no_text_so : length text ≡ 0 → IsExplained bytes number rule (Ok None)
-    no_text_so none = none_so λ earlier line later are numbered. let same = same_text earlier line later are numbered in let some = same.2 in omega (arith, none, some)
-
-    pub told_so : (law : TextsHaveOneLine) (one : TextsHaveOneTranscript) → 0 < length text → (found : Line) → IsLine number text found → (told : Option Reason) → ((earlier : List Line) → AreNotes notes earlier → told ≡ reason_of rule earlier found) → IsExplained bytes number rule (Ok told)
-    told_so law one some found is told tells = record {
-      explains = λ earlier line later are numbered.
-          let same = same_text earlier line later are numbered in
-          let before = one 1 so.before so.read earlier so.are same.0 in
-          let alike = law.one number text found line is same.1 in
-          inl (ap Ok (tells so.read so.so_far ∙ ap (λ xs. reason_of rule xs found) before ∙ ap (reason_of rule earlier) alike));
-      absent = λ transcript are none.
-          absurd (none_there 1 number so.before text (lines later_text) transcript (subst (λ t. AreLines 1 t transcript) (here bytes rest at notes so text later_text first_line) are) some (omega (arith, so.count)) none);
-      refused = tt;
-    }
-
-    pub unread_so : (law : TextsHaveOneLine) (grows : TranscriptsGrow) → 0 < length text → (result : Result (Option Reason) CheckFault) (fault : CheckFault) → Refuses number text fault → IsErrAnd result (λ told. told ≡ fault) → IsExplained bytes number rule result
-    unread_so law grows some result fault says is =
-        refused_so law grows bytes number rule result fault (told_error result fault is) (next_refused bytes rest at notes so text later_text first_line fault some (subst (λ n. Refuses n text fault) (sym reached) says))
+pub whole_refused : (bytes : List ℕ) (number : ℕ) (rule : Rule) (result : Result (Option Reason) CheckFault) → IsExplained bytes number rule result → IfErr result (IsRefusedIn (lines bytes))
+whole_refused bytes number rule result so = refused_whole bytes number result so.refused

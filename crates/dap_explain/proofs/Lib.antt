@@ -1,4 +1,5 @@
 pub mod Outcomes
+pub mod FoundLines
 pub mod TrailLemmas
 pub mod AskedLemmas
 pub mod DecisionLemmas

@@ -1,12 +1,14 @@
 -- How far the lines of a text are read, and the line of a number.
-use Rattle.std.proofs.Common.{◌≡◌, ℕ, ◌+◌, ◌<◌, List, [], ◌∷◌, ◌++◌, length, refl, sym, ap, ◌∙◌, subst, arith}
+use Rattle.std.proofs.Common.{◌≡◌, ℕ, ◌+◌, ◌-◌, ◌<◌, ◌≤◌, List, [], ◌∷◌, ◌++◌, length, refl, sym, ap, ◌∙◌, subst, arith}
+use Rattle.std.specs.Prelude.{take}
 use Rattle.std.specs.Str.Lines.{lines}
+use Rattle.std.proofs.Math.Seq.{take-append-add}
 use Rattle.std.proofs.lemmas.List.{length-append, append_assoc, append-nil}
 use Rattle.dap_explain.specs.PrivateNotes.{AreNotes}
 use Rattle.dap_explain.specs.PrivateTrails.{AreBelow}
 use Rattle.dap_explain.specs.PrivateWalks.{IsWalk}
 use Rattle.dap_check.specs.ReadingLaws.{TranscriptsGrow}
-use Rattle.dap_check.specs.Transcript.{IsLine, AreLines, IsTextAt, IsRefusedIn, Refuses}
+use Rattle.dap_check.specs.Transcript.{IsLine, AreLines, FirstRefused, Refuses}
 use Rattle.dap_check.specs.declared.checking.CheckFault.{CheckFault}
 use Rattle.dap_check.specs.declared.line.Line.{Line}
 use Rattle.dap_explain.specs.declared.notes.Notes.{Notes}
@@ -18,9 +20,16 @@ no_lines : (rest : List ℕ) → length rest ≡ 0 → lines rest ≡ []
 no_lines [] h = refl
 no_lines (x ∷ xs) h = absurd (omega arith)
 
-is_empty : (text : List ℕ) → length text ≡ 0 → text ≡ []
+pub is_empty : (text : List ℕ) → length text ≡ 0 → text ≡ []
 is_empty [] h = refl
 is_empty (x ∷ xs) h = absurd (omega arith)
+
+-- the first of a list, with one that stands before the place and what follows it
+take_behind : {X : Type 0} (before : List X) (x : X) (after : List X) (n : ℕ) → length before < n → (rest : List X) × (take n (before ++ x ∷ after) ≡ before ++ x ∷ rest)
+take_behind before x after n less =
+    let k = n - (length before + 1) in
+    let e : n ≡ length before + (k + 1) = omega (arith, less) in
+    (take k after, ap (λ m. take m (before ++ x ∷ after)) e ∙ take-append-add before (x ∷ after) (k + 1))
 
 module _ (bytes rest : List ℕ) (at : ℕ) (notes : Notes) (so : IsWalk bytes rest at notes) where
   pub all_read : length rest ≡ 0 → lines bytes ≡ so.before
@@ -30,15 +39,17 @@ module _ (bytes rest : List ℕ) (at : ℕ) (notes : Notes) (so : IsWalk bytes r
     pub here : lines bytes ≡ so.before ++ text ∷ lines later
     here = so.split ∙ ap (λ z. so.before ++ z) first_line
 
-    more : lines bytes ≡ (so.before ++ text ∷ []) ++ lines later
+    pub more : lines bytes ≡ (so.before ++ text ∷ []) ++ lines later
     more = here ∙ sym (append_assoc so.before (text ∷ []) (lines later))
 
-    -- the next line has the text
-    pub next_text : (number : ℕ) → at ≡ number → 0 < length text → IsTextAt (lines bytes) number text
-    next_text number e some = record { before = so.before; after = lines later; split = here; has_bytes = some; count = omega (arith, so.count) }
+    -- the lines up to one that is not before it
+    pub up_to : (number : ℕ) → at ≤ number → (after : List (List ℕ)) × (take number (lines bytes) ≡ so.before ++ text ∷ after)
+    up_to number ahead = let more = take_behind so.before text (lines later) number (omega (arith, so.count)) in (more.0, ap (take number) here ∙ more.1)
 
-    pub next_refused : (fault : CheckFault) → 0 < length text → Refuses at text fault → IsRefusedIn (lines bytes) fault
-    next_refused fault some says = record { before = so.before; text = text; after = lines later; split = here; has_bytes = some; refuses = subst (λ n. Refuses n text fault) so.count says }
+    pub next_refused : (number : ℕ) (fault : CheckFault) → at ≤ number → 0 < length text → Refuses at text fault → FirstRefused (take number (lines bytes)) fault
+    next_refused number fault ahead some says =
+        let more = up_to number ahead in
+        record { before = so.before; text = text; after = more.0; split = more.1; lines = so.read; accepted = so.are; has_bytes = some; refuses = subst (λ n. Refuses n text fault) so.count says }
 
     module _ (grows : TranscriptsGrow) (shorter : length later < length rest) where
       pub read_skipped : length text ≡ 0 → AreBelow (at + 1) notes.trails → IsWalk bytes later (at + 1) notes

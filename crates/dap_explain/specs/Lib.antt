@@ -3,3 +3,4 @@ pub mod Sentences
 pub mod PrivateTrails
 pub mod PrivateNotes
 pub mod PrivateWalks
+pub mod Explained

@@ -1,20 +1,23 @@
 //! Why a line breaks a rule, by what is kept of the lines before it.
-ghost use Rattle.std.specs.Prelude.{◌≡◌, ◌-◌, ◌^◌, ◌<◌, List, Some, None, if◌then◌else◌, option_map, is_some};
+ghost use Rattle.std.specs.Prelude.{◌≡◌, ◌-◌, ◌^◌, ◌<◌, List, Some, None, true, if◌then◌else◌, option_map, is_some};
 ghost use Rattle.serde_json.specs.Data.{unsigned};
 ghost use Rattle.dap_json.specs.Lent.{lent_data};
+ghost use Rattle.dap_check.specs.Checking.{IsFound};
 ghost use Rattle.dap_check.specs.Lines.{asks, is_of};
 ghost use Rattle.dap_check.specs.Rules.{number_at};
 ghost use Rattle.dap_explain.specs.Reasons.{reason_of, why_number, waiting_reason, not_asked_reason, answer_reason, second_request_reason, why_early, no_initialize_reason, why_uninitialized, gate_asked, gate_reason, not_given_reason, unknown_reason, number_reason, reference_reason, key_of, kind_named, why_ended};
+ghost use Rattle.dap_explain.specs.Explained.{reason_in};
 ghost use Rattle.dap_explain.specs.PrivateNotes.{AreNotes, is_on_in};
 ghost use Rattle.dap_explain.specs.PrivateTrails.{AreBelow};
 ghost use Rattle.dap_explain.specs.declared.reason.Reason.{Reason as TheReason};
+ghost use Rattle.dap_check.specs.declared.found.CheckMode.{CheckMode};
 ghost use Rattle.dap_check.specs.declared.line.Line.{Line as TheLine};
 
 use crate::decisions::Decision;
 use crate::notes::Notes;
 use crate::reason::{Reason, ReferenceKind};
 use crate::trail::{Last, Opened, Trail};
-use dap_check::{Line, Rule, Side, words};
+use dap_check::{Broken, Line, LineFound, Rule, Side, words};
 use dap_command::{Command, Gate};
 use dap_envelope::Kind;
 use serde_json::Value;
@@ -342,6 +345,29 @@ impl Notes {
             Rule::Gate => self.explain_gate(line),
             Rule::Reference => self.explain_reference(line),
             Rule::Disconnect => self.explain_end(line),
+        }
+    }
+
+    /// The same of a line that may not be given.
+    fn explain_given(&self, rule: Rule, line: &Option<Line>) -> Option<Reason>
+        requires { AreBelow (2 ^ 64 - 1) self.now.trails }
+        ensures { (earlier : List TheLine) (real : TheLine) → line.now ≡ Some real → AreNotes self.now earlier → result ≡ reason_of rule earlier real }
+    {
+        match line {
+            None => None,
+            Some(line) => self.explain(rule, line),
+        }
+    }
+
+    /// Why the next line breaks the one of the seven rules that was found, where it was read whole.
+    pub(crate) fn explain_found(&self, found: &LineFound) -> Option<Reason>
+        requires { AreBelow (2 ^ 64 - 1) self.now.trails }
+        ensures { (mode : CheckMode) (earlier : List TheLine) (line : TheLine) → mode.whole ≡ true → IsFound mode earlier line found.now → AreNotes self.now earlier → result ≡ reason_in found.now.broken earlier line }
+    {
+        match &found.broken {
+            None => None,
+            Some(Broken::Body(_)) => None,
+            Some(Broken::Rule(rule)) => self.explain_given(*rule, &found.line),
         }
     }
 }

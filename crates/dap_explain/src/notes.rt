@@ -1,14 +1,16 @@
 //! All that is kept of the lines so far, for the reasons of findings at the next one.
-ghost use Rattle.std.specs.Prelude.{◌≡◌, ◌+◌, ◌-◌, ◌^◌, ◌<◌, ◌∷◌, ◌++◌, [], List, ℕ, OnOk};
+ghost use Rattle.std.specs.Prelude.{◌≡◌, ◌+◌, ◌-◌, ◌^◌, ◌<◌, ◌∷◌, ◌++◌, [], List, ℕ, OnOk, IfErr, true};
 ghost use Rattle.dap_explain.specs.PrivateNotes.{AreNotes, asked_of};
 ghost use Rattle.dap_explain.specs.PrivateTrails.{AreBelow};
+ghost use Rattle.dap_check.specs.Checking.{IsFound};
+ghost use Rattle.dap_check.specs.declared.found.CheckMode.{CheckMode};
 ghost use Rattle.dap_check.specs.declared.line.Line.{Line as TheLine};
 
 use crate::asked::Asked;
 use crate::decisions::Decisions;
 use crate::given::Given;
 use crate::trail::Trails;
-use dap_check::{Line, Side};
+use dap_check::{Line, LineFound, Side};
 use std::alloc::{AllocError, Global};
 
 #[derive(Drop)]
@@ -48,6 +50,7 @@ impl Notes {
         requires { AreBelow (2 ^ 64 - 1) self.old.trails }
         ensures notes { OnOk result ((earlier : List TheLine) → AreNotes self.old earlier → AreNotes self.new (earlier ++ line.now ∷ [])) }
         ensures below { OnOk result ((n : ℕ) → AreBelow n self.old.trails → AreBelow (n + 1) self.new.trails) }
+        ensures same { IfErr result (λ refused. self.new.trails ≡ self.old.trails) }
     {
         self.client.note(alloc, Side::Client, line)?;
         self.adapter.note(alloc, Side::Adapter, line)?;
@@ -55,5 +58,18 @@ impl Notes {
         self.decisions.note(line);
         self.trails.note(line);
         Ok(())
+    }
+
+    /// Takes note of a line that was read whole.
+    pub(crate) fn note_found(&mut self, alloc: Global, found: &LineFound) -> Result<(), AllocError>
+        requires { AreBelow (2 ^ 64 - 1) self.old.trails }
+        ensures notes { OnOk result ((mode : CheckMode) (earlier : List TheLine) (line : TheLine) → mode.whole ≡ true → IsFound mode earlier line found.now → AreNotes self.old earlier → AreNotes self.new (earlier ++ line ∷ [])) }
+        ensures below { OnOk result ((n : ℕ) → AreBelow n self.old.trails → AreBelow (n + 1) self.new.trails) }
+        ensures same { IfErr result (λ refused. self.new.trails ≡ self.old.trails) }
+    {
+        match &found.line {
+            None => Ok(()),
+            Some(line) => self.note(alloc, line),
+        }
     }
 }

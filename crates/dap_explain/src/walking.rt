@@ -1,12 +1,13 @@
 //! The lines of a transcript, read once for the reasons of findings.
-ghost use Rattle.std.specs.Prelude.{◌≡◌, ◌⊎◌, ◌+◌, ◌-◌, ◌^◌, ◌<◌, ◌≤◌, ◌==◌, ◌∷◌, ◌++◌, [], List, ℕ, false, IfOk, IfErr, OnOk};
+ghost use Rattle.std.specs.Prelude.{◌≡◌, ◌≢◌, ◌⊎◌, ◌+◌, ◌-◌, ◌^◌, ◌<◌, ◌≤◌, ◌==◌, ◌∷◌, ◌++◌, [], List, ℕ, take, false, IfOk, IfErr, OnOk};
 ghost use Rattle.std.specs.List.{list_any};
 ghost use Rattle.std.specs.Str.Lines.{lines};
 ghost use Rattle.dap_explain.specs.PrivateNotes.{AreNotes};
 ghost use Rattle.dap_explain.specs.PrivateTrails.{AreBelow};
 ghost use Rattle.dap_explain.specs.PrivateWalks.{IsWalk, IsAt, IsExplained};
 ghost use Rattle.dap_explain.specs.Reasons.{reason_of};
-ghost use Rattle.dap_check.specs.Transcript.{IsLine, AreLines, IsRefusedIn, Refuses};
+ghost use Rattle.dap_check.specs.Transcript.{IsLine, AreLines, FirstRefused, IsRefusedIn, Refuses};
+ghost use Rattle.dap_check.specs.declared.checking.CheckFault.{CheckFault};
 ghost use Rattle.dap_check.specs.declared.line.Line.{Line as TheLine};
 
 use crate::notes::Notes;
@@ -55,7 +56,7 @@ impl<'a> Walk<'a> {
         requires walk { IsWalk bytes.now self.rest.now self.at self.notes }
         requires ahead { (self.at ≡ 1) ⊎ (self.at ≤ number) }
         ensures walk { IfOk result (λ walk. IsWalk bytes.now walk.rest.now walk.at walk.notes × IsAt number walk.rest.now walk.at) }
-        ensures refused { IfErr result (IsRefusedIn (lines bytes.now)) }
+        ensures refused { IfErr result (FirstRefused (take number (lines bytes.now))) }
     {
         // A law for the proof: how transcripts grow.
         texts_are_read_in_one_way();
@@ -133,6 +134,12 @@ impl<'a> Explainer<'a> {
         ensures absent { (transcript : List TheLine) → AreLines 1 (lines self.old) transcript → list_any (λ line. line.number == number) transcript ≡ false → (result ≡ Ok None) ⊎ (result ≡ Err CheckFault.OutOfMemory) }
         ensures refused { IfErr result (IsRefusedIn (lines self.old)) }
         ensures same { self.new ≡ self.old }
+
+        // By the lines up to that number alone, also where a later one is refused.
+        ensures explains_so_far { (earlier : List TheLine) (line : TheLine) → AreLines 1 (take number (lines self.old)) (earlier ++ line ∷ []) → line.number ≡ number → (result ≡ Ok (reason_of rule earlier line)) ⊎ (result ≡ Err CheckFault.OutOfMemory) }
+        ensures absent_so_far { (transcript : List TheLine) → AreLines 1 (take number (lines self.old)) transcript → list_any (λ line. line.number == number) transcript ≡ false → (result ≡ Ok None) ⊎ (result ≡ Err CheckFault.OutOfMemory) }
+        ensures refused_so_far { IfErr result (FirstRefused (take number (lines self.old))) }
+        ensures refuses { (fault : CheckFault) → FirstRefused (take number (lines self.old)) fault → fault ≢ CheckFault.OutOfMemory → (result ≡ Err fault) ⊎ (result ≡ Err CheckFault.OutOfMemory) }
     {
         // A law for the proof: a transcript is refused for nothing but memory.
         texts_are_read_in_one_way();
@@ -162,6 +169,12 @@ pub fn explain(
     ensures explains { (earlier : List TheLine) (line : TheLine) (later : List TheLine) → AreLines 1 (lines bytes.now) (earlier ++ line ∷ later) → line.number ≡ number → (result ≡ Ok (reason_of rule earlier line)) ⊎ (result ≡ Err CheckFault.OutOfMemory) }
     ensures absent { (transcript : List TheLine) → AreLines 1 (lines bytes.now) transcript → list_any (λ line. line.number == number) transcript ≡ false → (result ≡ Ok None) ⊎ (result ≡ Err CheckFault.OutOfMemory) }
     ensures refused { IfErr result (IsRefusedIn (lines bytes.now)) }
+
+    // By the lines up to that number alone, also where a later one is refused.
+    ensures explains_so_far { (earlier : List TheLine) (line : TheLine) → AreLines 1 (take number (lines bytes.now)) (earlier ++ line ∷ []) → line.number ≡ number → (result ≡ Ok (reason_of rule earlier line)) ⊎ (result ≡ Err CheckFault.OutOfMemory) }
+    ensures absent_so_far { (transcript : List TheLine) → AreLines 1 (take number (lines bytes.now)) transcript → list_any (λ line. line.number == number) transcript ≡ false → (result ≡ Ok None) ⊎ (result ≡ Err CheckFault.OutOfMemory) }
+    ensures refused_so_far { IfErr result (FirstRefused (take number (lines bytes.now))) }
+    ensures refuses { (fault : CheckFault) → FirstRefused (take number (lines bytes.now)) fault → fault ≢ CheckFault.OutOfMemory → (result ≡ Err fault) ⊎ (result ≡ Err CheckFault.OutOfMemory) }
 {
     let mut explainer = Explainer::open(alloc, bytes);
     explainer.reason_at(alloc, number, rule)

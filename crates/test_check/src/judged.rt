@@ -15,10 +15,10 @@
 //! | `! FAULT` | the text is no transcript |
 
 use dap_check::{
-    AnySeq, CheckFault, Checked, Finding, OpenRequest, Report, Side, check, check_all,
-    check_by_side,
+    AnySeq, Broken, CheckFault, CheckMode, Checked, Finding, OpenRequest, Report, Side, check,
+    check_all, check_by_side,
 };
-use dap_explain::{Explainer, Reason, explain, sentence};
+use dap_explain::{ExplainedChecker, Explainer, LineTold, Reason, explain, sentence};
 use std::alloc::{AllocError, Global};
 use std::marker::Model;
 use test_kit::bodies::body_of;
@@ -226,14 +226,82 @@ fn texts_of_requests(alloc: Global, requests: &[OpenRequest]) -> Result<Vec<Stri
     Ok(texts)
 }
 
+/// What a checker of lines finds of one, as a row writes it.
+fn text_of_told(alloc: Global, told: &LineTold) -> Result<Option<String>, Outcome> {
+    let line = told.found.number;
+    match (&told.found.broken, told.reason) {
+        (None, None) => Ok(None),
+        (Some(Broken::Rule(rule)), Some(reason)) => match sentence(alloc, reason) {
+            Ok(said) => {
+                let written = format!(in alloc; "line {line} rule {}: {said}", rule.number());
+                drop(said);
+                match written {
+                    Ok(written) => Ok(Some(written)),
+                    Err(_) => Err(Outcome::Refused),
+                }
+            }
+            Err(_) => Err(Outcome::Refused),
+        },
+        _ => Err(Outcome::Wrong),
+    }
+}
+
+fn next_text(
+    alloc: Global,
+    checker: &mut ExplainedChecker,
+    line: &str,
+) -> Result<Option<String>, Outcome> {
+    if checker.taken() > 1000000 {
+        return Err(Outcome::Wrong);
+    }
+    let line = line.strip_suffix('\r').unwrap_or(line);
+    match checker.line(alloc, line.as_bytes()) {
+        Ok(None) => Ok(None),
+        Ok(Some(told)) => text_of_told(alloc, &told),
+        Err(CheckFault::OutOfMemory) => Err(Outcome::Refused),
+        Err(_) => Err(Outcome::Wrong),
+    }
+}
+
+/// Whether a checker of lines finds the same, with the same reasons.
+fn is_found_by_lines(
+    alloc: Global,
+    text: &str,
+    any_seq: AnySeq,
+    found: &[String],
+) -> Result<bool, Outcome> {
+    let mut checker = ExplainedChecker::open(
+        alloc,
+        CheckMode {
+            any_seq,
+            bodies: false,
+            whole: true,
+        },
+    );
+    let mut place: usize = 0;
+    for line in text.split('\n') {
+        if let Some(told) = next_text(alloc, &mut checker, line)? {
+            match found.get(place) {
+                Some(there) if there.as_str() == told.as_str() => place = place.saturating_add(1),
+                _ => return Ok(false),
+            }
+        }
+    }
+    Ok(place == found.len())
+}
+
 /// What was found of a transcript, before the row says what should be.
 fn with_texts(
     alloc: Global,
     text: &str,
+    any_seq: AnySeq,
     report: &Report,
     names_all: bool,
 ) -> Result<Judged, Outcome> {
     let found = texts_of_findings(alloc, text, &report.findings)?;
+    if !is_found_by_lines(alloc, text, any_seq, &found)? {
+        return Err(Outcome::Wrong);
+    }
     match texts_of_requests(alloc, &report.unanswered) {
         Ok(unanswered) => Ok(Judged {
             found,
@@ -287,7 +355,9 @@ fn judge(alloc: Global, text: &str, any_seq: AnySeq, names_all: bool) -> Result<
         Err(fault) => return refused(alloc, fault),
     };
     match check_all(alloc, text.as_bytes(), any_seq, true) {
-        Ok(report) if is_first(checked, &report) => with_texts(alloc, text, &report, names_all),
+        Ok(report) if is_first(checked, &report) => {
+            with_texts(alloc, text, any_seq, &report, names_all)
+        }
         Ok(_) => Err(Outcome::Wrong),
         Err(CheckFault::OutOfMemory) => Err(Outcome::Refused),
         Err(_) => Err(Outcome::Wrong),

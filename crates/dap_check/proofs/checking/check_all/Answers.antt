@@ -2,7 +2,6 @@ use Rattle.std.proofs.Common.{inr}
 use Rattle.std.specs.Str.Lines.{lines}
 use Rattle.dap_check.specs.Findings.{IsReport}
 use Rattle.dap_check.specs.Transcript.{FirstRefused}
-use Rattle.dap_check.proofs.Judged.{lines_ascend}
 use Rattle.dap_check.proofs.OneReading.{no_fault, one_told, only_memory, reports, reports_so, refused_or}
 use Rattle.dap_check.proofs.checking.check_all.Goals as goal
 
@@ -10,22 +9,22 @@ pub returns-in-Ok-clause-checked : goal.returns-in-Ok-clause-checked
 returns-in-Ok-clause-checked c =
     let so = c.in-Ok.ensures.progress in
     let texts = lines c.args.bytes.now in
-    reports c.each_body_is_one.ensures texts c.args.any_seq so.0 so.1 c.report.result (c.report.ensures c.args.any_seq so.0 (lines_ascend 1 texts so.0 so.1) so.2)
+    reports c.each_body_is_one.ensures texts c.args.any_seq so.0 so.1.taken.are c.report.result (c.report.ensures _ texts so.0 so.1)
 
 pub returns-in-Ok-clause-refused : goal.returns-in-Ok-clause-refused
 returns-in-Ok-clause-refused c =
     let so = c.in-Ok.ensures.progress in
     let texts = lines c.args.bytes.now in
-    refused_or c.each_body_is_one.ensures texts (FirstRefused texts) (IsReport c.args.any_seq so.0) c.report.result (c.report.ensures c.args.any_seq so.0 (lines_ascend 1 texts so.0 so.1) so.2)
+    refused_or c.each_body_is_one.ensures texts (FirstRefused texts) (IsReport c.args.any_seq so.0) c.report.result (c.report.ensures _ texts so.0 so.1)
 
 pub returns-in-Ok-clause-checks : goal.returns-in-Ok-clause-checks
 returns-in-Ok-clause-checks c = λ transcript are.
     let so = c.in-Ok.ensures.progress in
     let texts = lines c.args.bytes.now in
-    reports_so c.each_body_is_one.ensures texts c.args.any_seq so.0 transcript so.1 are c.report.result (c.report.ensures c.args.any_seq so.0 (lines_ascend 1 texts so.0 so.1) so.2)
+    reports_so c.each_body_is_one.ensures texts c.args.any_seq so.0 transcript so.1.taken.are are c.report.result (c.report.ensures _ texts so.0 so.1)
 
 pub returns-in-Ok-clause-refuses : goal.returns-in-Ok-clause-refuses
-returns-in-Ok-clause-refuses c = λ fault refused other. let so = c.in-Ok.ensures.progress in absurd (no_fault c.each_body_is_one.ensures (lines c.args.bytes.now) so.0 so.1 fault refused other)
+returns-in-Ok-clause-refuses c = λ fault refused other. let so = c.in-Ok.ensures.progress in absurd (no_fault c.each_body_is_one.ensures (lines c.args.bytes.now) so.0 so.1.taken.are fault refused other)
 
 pub returns-in-Err-clause-refused : goal.returns-in-Err-clause-refused
 returns-in-Err-clause-refused c = inr c.in-Err.ensures.refused

@@ -2,7 +2,8 @@ use Rattle.std.proofs.Common.{◌≡◌, ◌+◌, ◌<◌, length, arith, sym, s
 use Rattle.std.proofs.lemmas.Bool.Decides.{nat_tests}
 use Rattle.dap_explain.specs.PrivateWalks.{IsWalk}
 use Rattle.dap_explain.specs.declared.notes.Notes.{Notes}
-use Rattle.dap_explain.proofs.Walked.{read_skipped, read_more}
+use Rattle.dap_explain.proofs.Walked.{read_skipped, read_more, next_refused}
+use Rattle.dap_explain.proofs.Outcomes.{if_err}
 use Rattle.dap_explain.proofs.walking.Walk.to.Goals as goal
 use Rattle.dap_explain.proofs.walking.Walk.to.Goals.{then-not-is_empty+in_ok-note_text, else-not-is_empty}
 
@@ -33,3 +34,11 @@ loop-alloc-preserved c =
       ],
       inr (omega arith),
     )
+
+pub returns-in_err-note_text-clause-refused : goal.returns-in_err-note_text-clause-refused
+returns-in_err-note_text-clause-refused c =
+    let l = c.loop-alloc in
+    let fault = c.in_err-note_text.field-0.0 in
+    let some : 0 < length c.split_line.result.0.now = grind (arith, nat_tests) in
+    if_err _ c.from_residual.result fault c.from_residual.ensures.1
+    (next_refused c.args.bytes.now l.rest.now l.at l.notes l.invariant.0 c.split_line.result.0.now c.split_line.result.1.now c.split_line.ensures.lines c.args.number fault (omega arith) some c.in_err-note_text.ensures.refused)

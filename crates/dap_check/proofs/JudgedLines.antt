@@ -1,0 +1,101 @@
+-- A line as it was judged, and what a checker has taken with it.
+use Rattle.std.proofs.Common.{◌≡◌, ℕ, ◌+◌, ◌<◌, List, [], ◌∷◌, ◌++◌, length, length-append, Bool, true, false, Option, Some, None, refl, sym, ap, ◌∙◌, subst, arith}
+use Rattle.std.specs.Prelude.{◌||◌, if◌then◌else◌}
+use Rattle.dap_command.specs.declared.gathering.GatheredReferences.{GatheredReferences}
+use Rattle.dap_check.specs.Checking.{is_of_body, IsFound, IsBrokenBody, IsBroken, HasTaken, taken_by}
+use Rattle.dap_check.specs.Legal.{least_broken}
+use Rattle.dap_check.specs.PrivateBare.{IsReadAs}
+use Rattle.dap_check.specs.PrivateJudged.{IsJudged}
+use Rattle.dap_check.specs.PrivateKept.{IsSeen}
+use Rattle.dap_check.specs.Transcript.{IsLine, AreLines}
+use Rattle.dap_check.specs.declared.checker.Checker.{Checker}
+use Rattle.dap_check.specs.declared.found.Broken.{Broken}
+use Rattle.dap_check.specs.declared.found.Broken.TheVariants.{Rule as OfRule, Body as OfBody}
+use Rattle.dap_check.specs.declared.found.CheckMode.{CheckMode}
+use Rattle.dap_check.specs.declared.judging.LineJudged.{LineJudged}
+use Rattle.dap_check.specs.declared.reading.LineRead.{LineRead}
+use Rattle.dap_check.specs.declared.rule.Rule.{Rule}
+use Rattle.dap_shape.specs.Faults.{fault_in}
+use Rattle.dap_check.proofs.BareLemmas.{number_as}
+use Rattle.dap_check.proofs.Judged.{is_empty, lines_skipped, lines_more}
+use Rattle.dap_check.specs.declared.line.Form.{Form}
+use Rattle.dap_check.specs.declared.line.Form.TheVariants.{Whole, Bare}
+use Rattle.dap_check.specs.declared.line.Line.{Line}
+
+pub side_as : (form : Form) (given : GatheredReferences) (read real : Line) → IsReadAs form given read real → read.side ≡ real.side
+side_as Whole given read real is = ap (λ (l : Line). l.side) is
+side_as Bare given read real is = ap (λ (l : Line). l.side) is.0
+
+pub whole_as : (form : Form) (given : GatheredReferences) (read real : Line) → IsReadAs form given read real → form ≡ Whole → read ≡ real
+whole_as Whole given read real is e = is
+whole_as Bare given read real is e = absurd (cc e)
+
+-- it is given back where it was read whole
+pub given_back : (form : Form) (given : GatheredReferences) (read real : Line) → IsReadAs form given read real → (whole body : Bool) → (whole ≡ true → form ≡ Whole) → (body ≡ true → form ≡ Whole)
+    → (if whole || body then Some read else None) ≡ (if whole || body then Some real else None)
+given_back form given read real is true body w b = ap Some (whole_as form given read real is (w refl))
+given_back form given read real is false true w b = ap Some (whole_as form given read real is (b refl))
+given_back form given read real is false false w b = refl
+
+-- ---- what it breaks
+
+module _ (mode : CheckMode) (earlier : List Line) (given : GatheredReferences) (real : Line) where
+  pub judged_rule : (read : LineRead) (rule : Rule) → IsReadAs read.form given read.line real → (mode.whole ≡ true → read.form ≡ Whole) → least_broken mode.any_seq earlier real ≡ Some rule → IsJudged mode earlier given real (record { read = read; broken = Some (OfRule rule) })
+  judged_rule read rule is whole least = record { read = is; broken = least; body = λ e. absurd (cc e); whole = whole }
+
+  pub judged_none : (read : LineRead) → IsReadAs read.form given read.line real → (mode.whole ≡ true → read.form ≡ Whole) → least_broken mode.any_seq earlier real ≡ None → (mode.bodies ≡ true → fault_in real.message.kind ≡ None) → IsJudged mode earlier given real (record { read = read; broken = None })
+  judged_none read is whole least sound = record { read = is; broken = (least, sound); body = λ e. absurd (cc e); whole = whole }
+
+  body_by : (broken : Option Broken) → least_broken mode.any_seq earlier real ≡ None → mode.bodies ≡ true → IsBrokenBody real.message.kind broken → IsBroken mode earlier real broken
+  body_by None least bodies is = (least, λ e. is)
+  body_by (Some (OfRule rule)) least bodies is = absurd is
+  body_by (Some (OfBody fault)) least bodies is = (least, bodies, is)
+
+  pub judged_body : (line : Line) (broken : Option Broken) → line ≡ real → least_broken mode.any_seq earlier real ≡ None → mode.bodies ≡ true → IsBrokenBody line.message.kind broken
+      → IsJudged mode earlier given real (record { read = record { line = line; form = Whole; is_sound = false }; broken = broken })
+  judged_body line broken same least bodies is = record {
+    read = same;
+    broken = body_by broken least bodies (subst (λ (l : Line). IsBrokenBody l.message.kind broken) same is);
+    body = λ e. refl;
+    whole = λ e. refl;
+  }
+
+  -- what is found of it
+  pub found_of : (judged : LineJudged) → IsJudged mode earlier given real judged → (whole : Bool) → mode.whole ≡ whole
+      → IsFound mode earlier real (record { number = judged.read.line.number; side = judged.read.line.side; broken = judged.broken; line = if whole || is_of_body judged.broken then Some judged.read.line else None })
+  found_of judged is whole asked = record {
+    numbered = number_as judged.read.form given judged.read.line real is.read;
+    side = side_as judged.read.form given judged.read.line real is.read;
+    broken = is.broken;
+    given_back =
+        ap (λ b. if b || is_of_body judged.broken then Some judged.read.line else None) (sym asked)
+        ∙ given_back judged.read.form given judged.read.line real is.read mode.whole (is_of_body judged.broken) is.whole is.body;
+  }
+
+-- ---- what a checker has taken
+
+module _ (mode : CheckMode) (texts : List (List ℕ)) (lines : List Line) (old new : Checker) (is : HasTaken mode texts lines old) (same : new.mode ≡ old.mode) where
+  pub taken_same : taken_by new ≡ taken_by old → new.seen ≡ old.seen → HasTaken mode texts lines new
+  taken_same count seen = record { asked = same ∙ is.asked; count = count ∙ is.count; are = is.are; seen = subst (λ s. IsSeen s lines) (sym seen) is.seen }
+
+  module _ (text : List ℕ) (one : taken_by new ≡ taken_by old + 1) where
+    counted : taken_by new ≡ length (texts ++ text ∷ [])
+    counted = omega (arith, one, is.count, length-append texts (text ∷ []))
+
+    pub taken_empty : length text ≡ 0 → new.seen ≡ old.seen → HasTaken mode (texts ++ text ∷ []) lines new
+    taken_empty none seen = record {
+      asked = same ∙ is.asked;
+      count = counted;
+      are = subst (λ t. AreLines 1 (texts ++ t ∷ []) lines) (sym (is_empty text none)) (lines_skipped 1 texts lines is.are);
+      seen = subst (λ s. IsSeen s lines) (sym seen) is.seen;
+    }
+
+    pub taken_line : (line : Line) → 0 < length text → IsLine (taken_by old + 1) text line → IsSeen new.seen (lines ++ line ∷ []) → HasTaken mode (texts ++ text ∷ []) (lines ++ line ∷ []) new
+    taken_line line some is_line seen =
+        let e : taken_by old + 1 ≡ 1 + length texts = omega (arith, is.count) in
+        record {
+          asked = same ∙ is.asked;
+          count = counted;
+          are = lines_more 1 texts lines text line is.are some (subst (λ n. IsLine n text line) e is_line);
+          seen = seen;
+        }
