@@ -27,7 +27,7 @@ pub struct Checker {
 }
 
 impl Checker {
-    ghost use Rattle.std.specs.Prelude.{◌≡◌, ◌≢◌, ◌-◌, ◌×◌, ◌^◌, ◌<◌, [], List, ℕ, length, OnOk, IfOk, IfErr};
+    ghost use Rattle.std.specs.Prelude.{◌≡◌, ◌≢◌, ◌-◌, ◌^◌, ◌<◌, [], List, ℕ, length, OnOk, IfOk, IfErr};
     ghost use Rattle.dap_check.specs.Checking.{HasTaken, TakesText, taken_by};
     ghost use Rattle.dap_check.specs.Findings.{open_requests};
     ghost use Rattle.dap_check.specs.Transcript.{Refuses};

@@ -1,5 +1,5 @@
 -- How far the lines of a text are read, and the line of a number.
-use Rattle.std.proofs.Common.{◌≡◌, ℕ, ◌+◌, ◌-◌, ◌<◌, ◌≤◌, List, [], ◌∷◌, ◌++◌, length, refl, sym, ap, ◌∙◌, subst, arith}
+use Rattle.std.proofs.Common.{◌≡◌, ℕ, suc, ◌+◌, ◌-◌, ◌<◌, ◌≤◌, List, [], ◌∷◌, ◌++◌, length, refl, sym, ap, ◌∙◌, subst, arith}
 use Rattle.std.specs.Prelude.{take}
 use Rattle.std.specs.Str.Lines.{lines}
 use Rattle.std.proofs.Math.Seq.{take-append-add}
@@ -28,8 +28,8 @@ is_empty (x ∷ xs) h = absurd (omega arith)
 take_behind : {X : Type 0} (before : List X) (x : X) (after : List X) (n : ℕ) → length before < n → (rest : List X) × (take n (before ++ x ∷ after) ≡ before ++ x ∷ rest)
 take_behind before x after n less =
     let k = n - (length before + 1) in
-    let e : n ≡ length before + (k + 1) = omega (arith, less) in
-    (take k after, ap (λ m. take m (before ++ x ∷ after)) e ∙ take-append-add before (x ∷ after) (k + 1))
+    let e : n ≡ length before + suc k = omega (arith, less) in
+    (take k after, ap (λ m. take m (before ++ x ∷ after)) e ∙ take-append-add before (x ∷ after) (suc k))
 
 module _ (bytes rest : List ℕ) (at : ℕ) (notes : Notes) (so : IsWalk bytes rest at notes) where
   pub all_read : length rest ≡ 0 → lines bytes ≡ so.before

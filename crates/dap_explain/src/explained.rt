@@ -19,7 +19,7 @@ pub struct ExplainedChecker {
 }
 
 impl ExplainedChecker {
-    ghost use Rattle.std.specs.Prelude.{◌≡◌, ◌≢◌, ◌-◌, ◌×◌, ◌^◌, ◌<◌, [], List, ℕ, length, OnOk, IfOk, IfErr};
+    ghost use Rattle.std.specs.Prelude.{◌≡◌, ◌≢◌, ◌-◌, ◌^◌, ◌<◌, [], List, ℕ, length, OnOk, IfOk, IfErr};
     ghost use Rattle.dap_check.specs.Findings.{open_requests};
     ghost use Rattle.dap_check.specs.Transcript.{Refuses};
     ghost use Rattle.dap_check.specs.declared.checking.CheckFault.{CheckFault};

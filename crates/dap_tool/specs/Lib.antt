@@ -4,6 +4,6 @@ pub mod Files
 pub mod Hints
 pub mod Commands
 pub mod Verdicts
-pub mod PrivateNumbers
 pub mod PrivateListed
+pub mod PrivateNumbers
 pub mod PrintedLaws

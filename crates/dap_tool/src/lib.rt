@@ -6,11 +6,11 @@
 //! on `list`, `show`, `unwrap`, `wrap`, `check`, `drive`, `drive_and_check` and the laws of both ends together.
 #![tactic(auto)]
 
+mod bodies;
 mod commands;
 mod explaining;
 mod fault;
 mod files;
-mod listing;
 mod numbering;
 mod printed;
 mod reads;

@@ -1,15 +1,17 @@
 //! Whether a side numbers its messages in a way of its own, and the hint that says so.
-ghost use Rattle.std.specs.Prelude.{◌≡◌, ◌+◌, ◌-◌, ◌^◌, ◌<◌, ◌≤◌, ◌&&◌, nat_le, ◌∷◌, ◌++◌, [], List, OnOk, true, if◌then◌else◌};
-ghost use Rattle.dap_check.specs.Checking.{IsFound};
-ghost use Rattle.dap_check.specs.Lines.{same_side};
-ghost use Rattle.dap_check.specs.declared.found.CheckMode.{CheckMode as TheMode};
+ghost use Rattle.std.specs.Prelude.{◌≡◌, ◌+◌, ◌-◌, ◌^◌, ◌<◌, ◌≤◌, ◌&&◌, nat_le, ◌∷◌, ◌++◌, [], List, ℕ, OnOk, true, if◌then◌else◌};
+ghost use Rattle.std.specs.Str.Lines.{lines};
+ghost use Rattle.dap_check.specs.Findings.{findings};
+ghost use Rattle.dap_check.specs.Lines.{same_side, is_of as is_line_of};
+ghost use Rattle.dap_check.specs.Transcript.{side_of, IsLine, AreLines};
 ghost use Rattle.dap_check.specs.declared.line.Line.{Line as TheLine};
 ghost use Rattle.dap_check.specs.declared.line.Side.{Side as TheSide};
 ghost use Rattle.dap_check.specs.declared.rule.AnySeq.{AnySeq};
-ghost use Rattle.dap_tool.specs.Hints.{numbers_itself, hint_text, hint_if};
-ghost use Rattle.dap_tool.specs.PrivateNumbers.{breaks_rule_1, AreNumbers};
+ghost use Rattle.dap_tool.specs.Hints.{is_rule_1, numbers_itself, hint_text, hint_if};
+ghost use Rattle.dap_tool.specs.PrivateNumbers.{AreNumbers};
 
-use dap_check::{Broken, LineFound, Rule, Side};
+use crate::bodies::split_rule;
+use dap_check::{Finding, Rule, Side, split_line};
 use std::alloc::AllocError;
 
 /// The messages of a side so far.
@@ -20,11 +22,26 @@ pub(crate) struct SideNumbers {
     pub(crate) each_breaks: bool,
 }
 
-/// Of both sides.
+/// How far the lines were passed.
 #[derive(Clone, Copy)]
-pub(crate) struct Numbers {
+pub(crate) struct Numbers<'a> {
     pub(crate) client: SideNumbers,
     pub(crate) adapter: SideNumbers,
+    /// What breaks one of the seven rules behind them.
+    pub(crate) left: &'a [Finding],
+}
+
+/// Whose message a line has.
+fn side_of_text(text: &[u8]) -> Option<Side>
+    ensures { result ≡ side_of text.now }
+{
+    if text.strip_prefix(b"> ").is_some() {
+        return Some(Side::Client);
+    }
+    match text.strip_prefix(b"< ") {
+        Some(_) => Some(Side::Adapter),
+        None => None,
+    }
 }
 
 fn are_same(one: Side, other: Side) -> bool
@@ -37,10 +54,20 @@ fn are_same(one: Side, other: Side) -> bool
     }
 }
 
-fn is_of_rule_1(broken: &Option<Broken>) -> bool
-    ensures { result ≡ breaks_rule_1 broken.now }
+/// Whether the text of a line is of the side.
+fn is_of(side: Side, text: &[u8]) -> bool
+    ensures { (number : ℕ) (line : TheLine) → IsLine number text.now line → result ≡ is_line_of side line }
 {
-    matches!(broken, Some(Broken::Rule(Rule::Seq)))
+    match side_of_text(text) {
+        None => false,
+        Some(found) => are_same(side, found),
+    }
+}
+
+fn is_of_rule_1(broken: Option<Rule>) -> bool
+    ensures { result ≡ is_rule_1 broken }
+{
+    matches!(broken, Some(Rule::Seq))
 }
 
 impl SideNumbers {
@@ -75,34 +102,53 @@ impl SideNumbers {
     }
 }
 
-impl Numbers {
-    pub(crate) fn new() -> Numbers
-        ensures numbers { (any_seq : AnySeq) → AreNumbers any_seq [] result }
+impl<'a> Numbers<'a> {
+    fn new(found: &'a [Finding]) -> Numbers<'a>
+        ensures numbers { (any_seq : AnySeq) (transcript : List TheLine) → findings any_seq transcript ≡ found.entry.now → AreNumbers any_seq [] transcript result }
         ensures no_client { result.client.count ≡ 0 }
         ensures no_adapter { result.adapter.count ≡ 0 }
     {
         Numbers {
             client: SideNumbers::new(),
             adapter: SideNumbers::new(),
+            left: found,
         }
     }
 
-    /// Takes note of what is found of a line.
-    pub(crate) fn note(&mut self, found: &LineFound)
+    /// Takes note of the text of a line, which is one.
+    fn note(&mut self, number: u64, text: &[u8])
         requires client { self.old.client.count < 2 ^ 64 - 1 }
         requires adapter { self.old.adapter.count < 2 ^ 64 - 1 }
-        ensures numbers { (mode : TheMode) (before : List TheLine) (line : TheLine) → IsFound mode before line found.now → AreNumbers mode.any_seq before self.old → AreNumbers mode.any_seq (before ++ line ∷ []) self.new }
+        ensures numbers { (any_seq : AnySeq) (before : List TheLine) (line : TheLine) (after : List TheLine) (texts : List (List ℕ)) → IsLine number text.now line → AreLines (number + 1) texts after → AreNumbers any_seq before (line ∷ after) self.old → AreNumbers any_seq (before ++ line ∷ []) after self.new }
         ensures client_room { self.new.client.count ≤ self.old.client.count + 1 }
         ensures adapter_room { self.new.adapter.count ≤ self.old.adapter.count + 1 }
     {
-        let breaks = is_of_rule_1(&found.broken);
+        let (broken, left) = split_rule(self.left, number);
+        let breaks = is_of_rule_1(broken);
         *self = Numbers {
-            client: self.client.after(are_same(Side::Client, found.side), breaks),
-            adapter: self
-                .adapter
-                .after(are_same(Side::Adapter, found.side), breaks),
+            client: self.client.after(is_of(Side::Client, text), breaks),
+            adapter: self.adapter.after(is_of(Side::Adapter, text), breaks),
+            left,
         };
     }
+}
+
+/// The numbers of a transcript, by its findings.
+fn numbers_of<'a>(bytes: &[u8], found: &'a [Finding]) -> Numbers<'a>
+    ensures { (any_seq : AnySeq) (transcript : List TheLine) → AreLines 1 (lines bytes.now) transcript → findings any_seq transcript ≡ found.entry.now → AreNumbers any_seq transcript [] result }
+{
+    let mut numbers = Numbers::new(found);
+    let mut rest = bytes;
+    let mut number = 0;
+    while !rest.is_empty() {
+        let (text, later) = split_line(rest);
+        number += 1;
+        if !text.is_empty() {
+            numbers.note(number, text);
+        }
+        rest = later;
+    }
+    numbers
 }
 
 fn words_of(client: bool, adapter: bool) -> &'static str
@@ -122,10 +168,11 @@ fn words_of(client: bool, adapter: bool) -> &'static str
     }
 }
 
-/// What is said of the numbers of a transcript.
-fn hint(numbers: Numbers) -> &'static str
-    ensures { (any_seq : AnySeq) (transcript : List TheLine) → AreNumbers any_seq transcript numbers → result.now ≡ hint_text (numbers_itself any_seq transcript TheSide.Client) (numbers_itself any_seq transcript TheSide.Adapter) }
+/// What is said of the numbers of a transcript with these findings.
+fn hint(bytes: &[u8], found: &[Finding]) -> &'static str
+    ensures { (any_seq : AnySeq) (transcript : List TheLine) → AreLines 1 (lines bytes.now) transcript → findings any_seq transcript ≡ found.now → result.now ≡ hint_text (numbers_itself any_seq transcript TheSide.Client) (numbers_itself any_seq transcript TheSide.Adapter) }
 {
+    let numbers = numbers_of(bytes, found);
     let client = numbers.client.are_own();
     let adapter = numbers.adapter.are_own();
     words_of(client, adapter)
@@ -134,13 +181,14 @@ fn hint(numbers: Numbers) -> &'static str
 /// Appends that, where reasons are asked for.
 pub(crate) fn push_hint(
     text: &mut Vec<u8>,
+    bytes: &[u8],
     explained: bool,
-    numbers: Numbers,
+    found: &[Finding],
 ) -> Result<(), AllocError>
-    ensures { OnOk result ((any_seq : AnySeq) (transcript : List TheLine) → AreNumbers any_seq transcript numbers → text.new.items ≡ text.old.items ++ hint_if explained any_seq transcript) }
+    ensures { OnOk result ((any_seq : AnySeq) (transcript : List TheLine) → AreLines 1 (lines bytes.now) transcript → findings any_seq transcript ≡ found.now → text.new.items ≡ text.old.items ++ hint_if explained any_seq transcript) }
 {
     if explained {
-        text.extend_from_slice(hint(numbers).as_bytes())?;
+        text.extend_from_slice(hint(bytes, found).as_bytes())?;
     }
     Ok(())
 }

@@ -1,15 +1,18 @@
-use Rattle.std.proofs.Common.{◌∙◌}
-use Rattle.dap_tool.specs.PrivateListed.{mode_of}
-use Rattle.dap_tool.proofs.ListedTexts.{closing_so, legal_listed}
+use Rattle.std.proofs.Common.{◌≡◌, false, refl, sym, ap, ◌∙◌, subst}
+use Rattle.std.specs.Prelude.{◌&&◌}
+use Rattle.dap_tool.specs.Verdicts.{texts_of, printed_text, has_fault}
+use Rattle.dap_tool.proofs.VerdictTexts.{legal_so}
 use Rattle.dap_tool.proofs.verdict.verdict.Goals as goal
 
-pub returns : goal.returns
-returns c = λ texts transcript is.
-    let options = c.args.options in
-    let listing = c.args.listed.listing in
+pub returns-in-Ok : goal.returns-in-Ok
+returns-in-Ok c = λ transcript are is.
     let laws = c.findings_are_broken_rules.ensures in
-    let requests = c.deref.ensures.value ∙ c.in_ok-requests.ensures (mode_of options) texts transcript is.noted in
+    let options = c.args.options in
+    let legal = legal_so laws.listed laws.first options.any_seq transcript c.is_empty-is_legal.result c.as_slice-found.result.now c.is_empty-is_legal.ensures (c.as_slice-found.ensures.value ∙ is.found) in
     record {
-      text = closing_so options transcript listing is.listed c.deref.result.now c.in_ok-text.text.items (c.in_ok-text.ensures transcript is.listed.numbers) requests;
-      legal = legal_listed options transcript listing is.listed laws.listed laws.first;
+      text = c.in-Ok.ensures transcript are is ∙ ap (λ b. printed_text options (texts_of options.any_seq options.explained b transcript) transcript) (sym c.requires);
+      legal = (λ yes. (legal.0 yes, subst (λ b. (b && has_fault transcript) ≡ false) (sym c.requires) refl), λ both. legal.1 both.0);
     }
+
+pub returns-in-Err : goal.returns-in-Err
+returns-in-Err c = λ transcript are is. c.in-Err.ensures transcript are is
