@@ -76,9 +76,9 @@ neither_true true e = absurd (cc e)
 neither_true false e = absurd (cc e)
 
 -- it was seen where bodies count, and nothing is broken
-pub found_sound : (mode : CheckMode) (earlier : List Line) (line : Line) (broken : Option Broken) → IsBroken mode earlier line broken → (mode.bodies && is_none broken) ≡ true → fault_in line.message.kind ≡ None
-found_sound mode earlier line None is seen = is.1 (both_true mode.bodies true seen)
-found_sound mode earlier line (Some broken) is seen = absurd (neither_true mode.bodies seen)
+pub found_sound : (mode : CheckMode) (earlier : List Line) (line : Line) (broken : Option Broken) → IsBroken mode earlier line broken → (none : Bool) → none ≡ is_none broken → (mode.bodies && none) ≡ true → fault_in line.message.kind ≡ None
+found_sound mode earlier line None is none e seen = is.1 (both_true mode.bodies none seen)
+found_sound mode earlier line (Some broken) is none e seen = absurd (neither_true mode.bodies (ap (λ b. mode.bodies && b) (sym e) ∙ seen))
 
 pub sound_more : (lines : List Line) (sound : List Bool) (line : Line) (is_sound : Bool) → (is_sound ≡ true → fault_in line.message.kind ≡ None) → AreSound lines sound → AreSound (lines ++ line ∷ []) (sound ++ is_sound ∷ [])
 sound_more [] [] line is_sound faultless are = (faultless, tt)

@@ -89,7 +89,9 @@ impl Progress {
         ensures checker { self.new.checker ≡ self.old.checker }
     {
         push_broken(&mut self.findings, found.number, &found.broken)?;
-        self.sound.push(mode.bodies && found.broken.is_none())
+        let is_whole = found.broken.is_none();
+        self.sound.push(mode.bodies && is_whole)?;
+        Ok(())
     }
 
     /// Takes the text of the next line.
