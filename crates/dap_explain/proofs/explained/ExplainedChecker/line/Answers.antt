@@ -1,15 +1,25 @@
-use Rattle.std.proofs.Common.{◌≡◌, ◌∙◌, Some, refl, sym, subst, true, false}
-use Rattle.std.specs.Prelude.{Option}
+use Rattle.std.proofs.Common.{◌≡◌, Option, Some, None, sym, subst, true, false}
 use Rattle.dap_check.specs.Checking.{TakesText}
 use Rattle.dap_check.specs.declared.found.LineFound.{LineFound}
 use Rattle.dap_explain.proofs.FoundLines.{told_plain, told_whole}
 use Rattle.dap_explain.proofs.explained.ExplainedChecker.line.Goals as goal
 
 pub returns-in-None-clause-told : goal.returns-in-None-clause-told
-returns-in-None-clause-told c = λ mode texts lines is. ?
+returns-in-None-clause-told c = λ mode texts lines is.
+    let takes = subst (λ (o : Option LineFound). TakesText mode texts lines c.args.text.now o c.line.new.self) c.in-None.is (c.in_ok-line.ensures.found mode texts lines is.taken) in
+    (takes.0, record { taken = takes.1; asked = is.asked; notes = is.notes })
 
 pub returns-then-not-explains-clause-told : goal.returns-then-not-explains-clause-told
-returns-then-not-explains-clause-told c = λ mode texts lines is. ?
+returns-then-not-explains-clause-told c = λ mode texts lines is.
+    let takes = subst (λ (o : Option LineFound). TakesText mode texts lines c.args.text.now o c.line.new.self) c.in-Some.is (c.in_ok-line.ensures.found mode texts lines is.taken) in
+    let asked = is.asked in
+    let plain : mode.whole ≡ false = cc in
+    told_plain mode texts lines c.args.text.now c.in-Some.found _ takes asked plain
 
-pub returns-clause-told : goal.returns-clause-told
-returns-clause-told c = λ mode texts lines is. ?
+pub returns-in_ok-note_found-in-Some-clause-told : goal.returns-in_ok-note_found-in-Some-clause-told
+returns-in_ok-note_found-in-Some-clause-told c = λ mode texts lines is.
+    let takes = subst (λ (o : Option LineFound). TakesText mode texts lines c.args.text.now o c.line.new.self) c.in-Some.is (c.in_ok-line.ensures.found mode texts lines is.taken) in
+    let asked = is.asked in
+    let whole : mode.whole ≡ true = cc in
+    told_whole mode texts lines c.args.text.now c.in-Some.found _ takes asked whole c.explain_found-reason.result (λ line found. c.explain_found-reason.ensures mode lines line whole found (is.notes whole))
+    (λ line found. c.in_ok-note_found-in-Some.ensures.notes mode lines line whole found (is.notes whole))
