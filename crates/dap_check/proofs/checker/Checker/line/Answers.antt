@@ -25,8 +25,5 @@ returns-clause-found c = λ mode texts lines is.
     let seen = c.in_ok-note.ensures.seen lines real judged.read is.seen in
     let P : CheckMode → Type 0 = λ m. IsFound m lines real c.found.result in (
       some,
-      real,
-      numbered,
-      subst P is.asked found,
-      taken_line mode texts lines self _ is refl c.args.text.now refl real some read.1 seen,
+      (real, numbered, subst P is.asked found, taken_line mode texts lines self _ is refl c.args.text.now refl real some read.1 seen),
     )

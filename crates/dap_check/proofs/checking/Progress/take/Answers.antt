@@ -16,7 +16,7 @@ returns-in_ok-keep-in-Some-clause-progress c = λ texts lines is.
     let kept = c.in_ok-keep-in-Some.ensures in (
       lines ++ line ∷ [],
       record {
-        taken = subst (λ (checker : Checker). HasTaken c.args.mode _ _ checker) (sym kept.checker) takes.1.3;
+        taken = subst (λ (checker : Checker). HasTaken c.args.mode (texts ++ c.args.text.now ∷ []) (lines ++ line ∷ []) checker) (sym kept.checker) takes.1.3;
         found = kept.found lines line takes.1.2 is.found;
         sound = kept.sound lines line takes.1.2 is.sound;
       },
