@@ -1,7 +1,7 @@
 -- All lines that break a rule: one line more, and the first of them.
 use Rattle.std.proofs.Common.{◌≡◌, List, [], ◌∷◌, ◌++◌, Bool, true, Option, Some, None, refl, sym, ap, ◌∙◌, subst}
 use Rattle.std.proofs.lemmas.List.{append_assoc, append-nil}
-use Rattle.std.specs.Prelude.{◌&&◌, not, false, is_some}
+use Rattle.std.specs.Prelude.{false, is_some, if◌then◌else◌}
 use Rattle.dap_shape.specs.Faults.{fault_in}
 use Rattle.dap_check.specs.Findings.{finding_at, findings_after, findings, first_of, AreSound}
 use Rattle.dap_check.specs.Legal.{least_broken, IsLegal, IsVerdict}
@@ -67,19 +67,10 @@ found_more mode lines line found is old new was more =
 
 -- ---- messages without a fault
 
-both_true : (a b : Bool) → (a && b) ≡ true → a ≡ true
-both_true true b e = refl
-both_true false b e = absurd (cc e)
-
-none_seen : (a none : Bool) → true ≡ not none → (a && none) ≡ true → ⊥
-none_seen a true e seen = absurd (cc e)
-none_seen true false e seen = absurd (cc seen)
-none_seen false false e seen = absurd (cc seen)
-
 -- it was seen where bodies count, and nothing is broken
-pub found_sound : (mode : CheckMode) (earlier : List Line) (line : Line) (broken : Option Broken) → IsBroken mode earlier line broken → (none : Bool) → is_some broken ≡ not none → (mode.bodies && none) ≡ true → fault_in line.message.kind ≡ None
-found_sound mode earlier line None is none e seen = is.1 (both_true mode.bodies none seen)
-found_sound mode earlier line (Some broken) is none e seen = absurd (none_seen mode.bodies none e seen)
+pub found_sound : (mode : CheckMode) (earlier : List Line) (line : Line) (broken : Option Broken) → IsBroken mode earlier line broken → (seen : Bool) → seen ≡ (if is_some broken then false else mode.bodies) → seen ≡ true → fault_in line.message.kind ≡ None
+found_sound mode earlier line None is seen e yes = is.1 (sym e ∙ yes)
+found_sound mode earlier line (Some broken) is seen e yes = absurd (cc (e, yes))
 
 pub sound_more : (lines : List Line) (sound : List Bool) (line : Line) (is_sound : Bool) → (is_sound ≡ true → fault_in line.message.kind ≡ None) → AreSound lines sound → AreSound (lines ++ line ∷ []) (sound ++ is_sound ∷ [])
 sound_more [] [] line is_sound faultless are = (faultless, tt)

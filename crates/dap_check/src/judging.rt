@@ -1,5 +1,5 @@
 //! What a line breaks by rule 8, where it breaks none of the seven.
-ghost use Rattle.std.specs.Prelude.{◌≡◌, List, IfOk, IfErr, IsTrue, Some, None, true, if◌then◌else◌};
+ghost use Rattle.std.specs.Prelude.{◌≡◌, ◌||◌, List, IfOk, IfErr, IsTrue, Some, None, true, if◌then◌else◌};
 ghost use Rattle.dap_command.specs.declared.gathering.GatheredReferences.{GatheredReferences};
 ghost use Rattle.dap_shape.specs.Faults.{fault_in};
 ghost use Rattle.dap_check.specs.Checking.{is_of_body, IsFound, IsBrokenBody};
@@ -37,7 +37,7 @@ impl LineJudged {
         let number = read.line.number;
         let side = read.line.side;
         let is_of_8 = is_of_rule_8(&broken);
-        let is_given_back = whole || is_of_8;
+        let is_given_back = is_either(whole, is_of_8);
         LineFound {
             number,
             side,
@@ -51,6 +51,12 @@ fn is_of_rule_8(broken: &Option<Broken>) -> bool
     ensures { result ≡ is_of_body broken.now }
 {
     matches!(broken, Some(Broken::Body(_)))
+}
+
+fn is_either(one: bool, other: bool) -> bool
+    ensures { result ≡ (one || other) }
+{
+    one || other
 }
 
 fn given_back(is_given_back: bool, line: Line) -> Option<Line>
@@ -101,7 +107,7 @@ fn judge_unbroken(
     ensures judged { IfOk result (λ judged. (mode : TheMode) (earlier : List TheLine) (given : GatheredReferences) (real : TheLine) → mode.bodies ≡ bodies → IsLine number text.now real → IsReadAs read.form given read.line real → (IsTrue read.is_sound → fault_in real.message.kind ≡ None) → (mode.whole ≡ true → read.form ≡ Form.Whole) → least_broken mode.any_seq earlier real ≡ None → IsJudged mode earlier given real judged) }
     ensures refused { IfErr result (Refuses number text.now) }
 {
-    let is_done = !bodies || read.is_sound;
+    let is_done = is_either(!bodies, read.is_sound);
     if is_done {
         return Ok(LineJudged { read, broken: None });
     }

@@ -9,4 +9,4 @@ returns-clause-found c = λ lines line is was. found_more c.args.mode lines line
 pub returns-clause-sound : goal.returns-clause-sound
 returns-clause-sound c = λ lines line is are.
     subst (AreSound (lines ++ line ∷ [])) (sym c.in_ok-push.ensures.items)
-    (sound_more lines c.args.self.now.sound.items line _ (found_sound c.args.mode lines line c.args.found.now.broken is.broken c.is_none-is_whole.result c.is_none-is_whole.ensures) are)
+    (sound_more lines c.args.self.now.sound.items line _ (found_sound c.args.mode lines line c.args.found.now.broken is.broken c.is_seen_sound-is_sound.result c.is_seen_sound-is_sound.ensures) are)

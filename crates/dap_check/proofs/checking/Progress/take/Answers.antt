@@ -1,4 +1,5 @@
-use Rattle.std.proofs.Common.{◌∷◌, ◌++◌, [], List, Option, sym, subst}
+use Rattle.std.proofs.Common.{◌∷◌, ◌++◌, [], ◌<◌, length, List, Option, sym, subst}
+use Rattle.std.specs.Prelude.{IfSome}
 use Rattle.dap_check.specs.Checking.{HasTaken, TakesText}
 use Rattle.dap_check.specs.declared.checker.Checker.{Checker}
 use Rattle.dap_check.specs.declared.found.LineFound.{LineFound}
@@ -9,11 +10,11 @@ returns-in-None-clause-progress c = λ texts lines is.
     let takes = subst (λ (o : Option LineFound). TakesText c.args.mode texts lines c.args.text.now o c.line.new.self) c.in-None.is (c.in_ok-line.ensures.found c.args.mode texts lines is.taken) in
     (lines, record { taken = takes.1; found = is.found; sound = is.sound })
 
-pub returns-in_ok-keep-in-Some-clause-progress : goal.returns-in_ok-keep-in-Some-clause-progress
-returns-in_ok-keep-in-Some-clause-progress c = λ texts lines is.
+pub returns-in-Ok-clause-progress : goal.returns-in-Ok-clause-progress
+returns-in-Ok-clause-progress c = λ texts lines is.
     let takes = subst (λ (o : Option LineFound). TakesText c.args.mode texts lines c.args.text.now o c.line.new.self) c.in-Some.is (c.in_ok-line.ensures.found c.args.mode texts lines is.taken) in
     let line = takes.1.0 in
-    let kept = c.in_ok-keep-in-Some.ensures in (
+    let kept = c.in-Ok.ensures in (
       lines ++ line ∷ [],
       record {
         taken = subst (λ (checker : Checker). HasTaken c.args.mode (texts ++ c.args.text.now ∷ []) (lines ++ line ∷ []) checker) (sym kept.checker) takes.1.3;
@@ -21,3 +22,6 @@ returns-in_ok-keep-in-Some-clause-progress c = λ texts lines is.
         sound = kept.sound lines line takes.1.2 is.sound;
       },
     )
+
+pub returns-in-Err-clause-refused : goal.returns-in-Err-clause-refused
+returns-in-Err-clause-refused c = (tt, subst (λ (o : Option LineFound). IfSome o (λ line. 0 < length c.args.text.now)) c.in-Some.is c.in_ok-line.ensures.bytes)
