@@ -69,8 +69,8 @@ found_more mode lines line found is old new was more =
 
 -- it was seen where bodies count, and nothing is broken
 pub found_sound : (mode : CheckMode) (earlier : List Line) (line : Line) (broken : Option Broken) → IsBroken mode earlier line broken → (seen : Bool) → seen ≡ (if is_some broken then false else mode.bodies) → seen ≡ true → fault_in line.message.kind ≡ None
-found_sound mode earlier line None is seen e yes = is.1 (sym e ∙ yes)
-found_sound mode earlier line (Some broken) is seen e yes = absurd (cc (e, yes))
+found_sound mode earlier line None is seen e so = is.1 (sym e ∙ so)
+found_sound mode earlier line (Some broken) is seen e so = absurd (cc (e, so))
 
 pub sound_more : (lines : List Line) (sound : List Bool) (line : Line) (is_sound : Bool) → (is_sound ≡ true → fault_in line.message.kind ≡ None) → AreSound lines sound → AreSound (lines ++ line ∷ []) (sound ++ is_sound ∷ [])
 sound_more [] [] line is_sound faultless are = (faultless, tt)

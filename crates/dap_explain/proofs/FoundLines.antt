@@ -34,10 +34,12 @@ module _ (mode : CheckMode) (texts : List (List ℕ)) (lines : List Line) (text 
   told_plain plain =
       let line = takes.1.0 in (
         takes.0,
-        line,
-        takes.1.1,
-        record { found = takes.1.2; reason = ap (λ b. if b then reason_in found.broken lines line else None) (sym plain) },
-        record { taken = takes.1.3; asked = asked; notes = λ whole. absurd (cc (whole, plain)) },
+        (
+          line,
+          takes.1.1,
+          record { found = takes.1.2; reason = ap (λ b. if b then reason_in found.broken lines line else None) (sym plain) },
+          record { taken = takes.1.3; asked = asked; notes = λ whole. absurd (cc (whole, plain)) },
+        ),
       )
 
   -- with one
@@ -46,8 +48,10 @@ module _ (mode : CheckMode) (texts : List (List ℕ)) (lines : List Line) (text 
   told_whole whole reason tells notes =
       let line = takes.1.0 in (
         takes.0,
-        line,
-        takes.1.1,
-        record { found = takes.1.2; reason = tells line takes.1.2 ∙ ap (λ b. if b then reason_in found.broken lines line else None) (sym whole) },
-        record { taken = takes.1.3; asked = asked; notes = λ again. notes line takes.1.2 },
+        (
+          line,
+          takes.1.1,
+          record { found = takes.1.2; reason = tells line takes.1.2 ∙ ap (λ b. if b then reason_in found.broken lines line else None) (sym whole) },
+          record { taken = takes.1.3; asked = asked; notes = λ again. notes line takes.1.2 },
+        ),
       )

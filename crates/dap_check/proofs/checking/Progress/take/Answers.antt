@@ -1,5 +1,4 @@
-use Rattle.std.proofs.Common.{◌∷◌, ◌++◌, [], ◌<◌, length, List, Option, sym, subst}
-use Rattle.std.specs.Prelude.{IfSome}
+use Rattle.std.proofs.Common.{◌∷◌, ◌++◌, [], List, Option, sym, subst}
 use Rattle.dap_check.specs.Checking.{HasTaken, TakesText}
 use Rattle.dap_check.specs.declared.checker.Checker.{Checker}
 use Rattle.dap_check.specs.declared.found.LineFound.{LineFound}
@@ -22,6 +21,3 @@ returns-in-Ok-clause-progress c = λ texts lines is.
         sound = kept.sound lines line takes.1.2 is.sound;
       },
     )
-
-pub returns-in-Err-clause-refused : goal.returns-in-Err-clause-refused
-returns-in-Err-clause-refused c = (tt, subst (λ (o : Option LineFound). IfSome o (λ line. 0 < length c.args.text.now)) c.in-Some.is c.in_ok-line.ensures.bytes)

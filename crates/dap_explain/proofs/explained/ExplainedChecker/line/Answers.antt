@@ -1,4 +1,5 @@
-use Rattle.std.proofs.Common.{◌≡◌, Option, Some, None, sym, subst, true, false}
+use Rattle.std.proofs.Common.{◌≡◌, ◌<◌, length, Option, Some, None, sym, subst, true, false}
+use Rattle.std.specs.Prelude.{IfSome}
 use Rattle.dap_check.specs.Checking.{TakesText}
 use Rattle.dap_check.specs.declared.found.LineFound.{LineFound}
 use Rattle.dap_explain.proofs.FoundLines.{told_plain, told_whole}
@@ -16,10 +17,13 @@ returns-then-not-explains-clause-told c = λ mode texts lines is.
     let plain : mode.whole ≡ false = cc in
     told_plain mode texts lines c.args.text.now c.in-Some.found _ takes asked plain
 
-pub returns-in_ok-note_found-in-Some-clause-told : goal.returns-in_ok-note_found-in-Some-clause-told
-returns-in_ok-note_found-in-Some-clause-told c = λ mode texts lines is.
+pub returns-in-Ok-clause-told : goal.returns-in-Ok-clause-told
+returns-in-Ok-clause-told c = λ mode texts lines is.
     let takes = subst (λ (o : Option LineFound). TakesText mode texts lines c.args.text.now o c.line.new.self) c.in-Some.is (c.in_ok-line.ensures.found mode texts lines is.taken) in
     let asked = is.asked in
     let whole : mode.whole ≡ true = cc in
     told_whole mode texts lines c.args.text.now c.in-Some.found _ takes asked whole c.explain_found-reason.result (λ line found. c.explain_found-reason.ensures mode lines line whole found (is.notes whole))
-    (λ line found. c.in_ok-note_found-in-Some.ensures.notes mode lines line whole found (is.notes whole))
+    (λ line found. c.in-Ok.ensures.notes mode lines line whole found (is.notes whole))
+
+pub returns-in-Err-clause-refused : goal.returns-in-Err-clause-refused
+returns-in-Err-clause-refused c = (tt, subst (λ (o : Option LineFound). IfSome o (λ line. 0 < length c.args.text.now)) c.in-Some.is c.in_ok-line.ensures.bytes)
