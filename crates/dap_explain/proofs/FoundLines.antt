@@ -8,7 +8,7 @@ use Rattle.dap_check.specs.declared.line.Line.{Line}
 use Rattle.dap_explain.specs.Explained.{reason_in, IsTold, HasNoted, TakesAndTells}
 use Rattle.dap_explain.specs.PrivateNotes.{AreNotes}
 use Rattle.dap_explain.specs.PrivateTrails.{AreBelow}
-use Rattle.dap_explain.specs.declared.explained.ExplainedChecker.{ExplainedChecker}
+use Rattle.dap_explain.specs.declared.reasoning.ExplainedChecker.{ExplainedChecker}
 use Rattle.dap_explain.specs.declared.reason.Reason.{Reason}
 use Rattle.dap_explain.specs.declared.trail.Trails.{Trails}
 

@@ -3,7 +3,7 @@ use Rattle.std.specs.Prelude.{IfSome}
 use Rattle.dap_check.specs.Checking.{TakesText}
 use Rattle.dap_check.specs.declared.found.LineFound.{LineFound}
 use Rattle.dap_explain.proofs.FoundLines.{told_plain, told_whole}
-use Rattle.dap_explain.proofs.explained.ExplainedChecker.line.Goals as goal
+use Rattle.dap_explain.proofs.reasoning.ExplainedChecker.line.Goals as goal
 
 pub returns-in-None-clause-told : goal.returns-in-None-clause-told
 returns-in-None-clause-told c = λ mode texts lines is.
