@@ -10,8 +10,8 @@ returns-in-None-clause-told c = λ mode texts lines is.
     let takes = subst (λ (o : Option LineFound). TakesText mode texts lines c.args.text.now o c.line.new.self) c.in-None.is (c.in_ok-line.ensures.found mode texts lines is.taken) in
     (takes.0, record { taken = takes.1; asked = is.asked; notes = is.notes })
 
-pub returns-then-not-explains-clause-told : goal.returns-then-not-explains-clause-told
-returns-then-not-explains-clause-told c = λ mode texts lines is.
+pub returns-then-not-self-clause-told : goal.returns-then-not-self-clause-told
+returns-then-not-self-clause-told c = λ mode texts lines is.
     let takes = subst (λ (o : Option LineFound). TakesText mode texts lines c.args.text.now o c.line.new.self) c.in-Some.is (c.in_ok-line.ensures.found mode texts lines is.taken) in
     let asked = is.asked in
     let plain : mode.whole ≡ false = cc in
