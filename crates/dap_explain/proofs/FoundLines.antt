@@ -1,6 +1,6 @@
 -- What is found of a line that was read whole, and what that tells of reasons.
-use Rattle.std.proofs.Common.{◌≡◌, ℕ, ◌+◌, ◌<◌, ◌≤◌, List, [], ◌∷◌, ◌++◌, Bool, true, false, Option, Some, None, refl, sym, ap, ◌∙◌, subst, arith}
-use Rattle.std.specs.Prelude.{◌||◌, if◌then◌else◌}
+use Rattle.std.proofs.Common.{◌≡◌, ℕ, ◌+◌, ◌<◌, ◌≤◌, List, [], ◌∷◌, ◌++◌, Bool, true, false, Option, Some, None, Result, Ok, Err, refl, sym, ap, ◌∙◌, subst, arith}
+use Rattle.std.specs.Prelude.{◌||◌, if◌then◌else◌, OnOk, IfErr}
 use Rattle.dap_check.specs.Checking.{is_of_body, IsFound, TakesText}
 use Rattle.dap_check.specs.declared.found.CheckMode.{CheckMode}
 use Rattle.dap_check.specs.declared.found.LineFound.{LineFound}
@@ -25,6 +25,11 @@ below_more m n found less below = record {
   initialized = omega (arith, less, below.initialized);
   disconnected = omega (arith, less, below.disconnected);
 }
+
+-- whether a line was noted or memory was refused
+pub below_noted : {A E : Type 0} (result : Result A E) (old new : Trails) → OnOk result ((n : ℕ) → AreBelow n old → AreBelow (n + 1) new) → IfErr result (λ refused. new ≡ old) → (n m : ℕ) → m ≡ n + 1 → AreBelow n old → AreBelow m new
+below_noted (Ok x) old new noted same n m e below = subst (λ k. AreBelow k new) (sym e) (noted n below)
+below_noted (Err x) old new noted same n m e below = subst (AreBelow m) (sym same) (below_more n m old (omega (arith, e)) below)
 
 -- ---- what is told of it
 

@@ -1,8 +1,8 @@
-use Rattle.std.proofs.Common.{◌≡◌, ◌<◌, length, Option, Some, None, sym, subst, true, false}
+use Rattle.std.proofs.Common.{◌≡◌, ◌+◌, ◌<◌, arith, length, Option, Some, None, sym, subst, true, false}
 use Rattle.std.specs.Prelude.{IfSome}
-use Rattle.dap_check.specs.Checking.{TakesText}
+use Rattle.dap_check.specs.Checking.{TakesText, taken_by}
 use Rattle.dap_check.specs.declared.found.LineFound.{LineFound}
-use Rattle.dap_explain.proofs.FoundLines.{told_plain, told_whole}
+use Rattle.dap_explain.proofs.FoundLines.{told_plain, told_whole, below_noted}
 use Rattle.dap_explain.proofs.reasoning.ExplainedChecker.line.Goals as goal
 
 pub returns-in-None-clause-told : goal.returns-in-None-clause-told
@@ -27,3 +27,10 @@ returns-in-Ok-clause-told c = λ mode texts lines is.
 
 pub returns-in-Err-clause-refused : goal.returns-in-Err-clause-refused
 returns-in-Err-clause-refused c = (tt, subst (λ (o : Option LineFound). IfSome o (λ line. 0 < length c.args.text.now)) c.in-Some.is c.in_ok-line.ensures.bytes)
+
+pub invariant_of-self-in-Some : goal.invariant_of-self-in-Some
+invariant_of-self-in-Some c = record {
+  below =
+      let one = c.in_ok-line.ensures.one in
+      below_noted c.note_found.result c.args.self.now.notes.trails c.note_found.new.self.trails c.note_found.ensures.below c.note_found.ensures.same (taken_by c.args.self.now.checker + 1) (taken_by c.line.new.self + 1) (omega (arith, one)) c.args.self.now.below;
+}
