@@ -1,4 +1,4 @@
-use Rattle.std.proofs.Common.{◌≡◌, true, false, sym, ◌∙◌}
+use Rattle.std.proofs.Common.{sym, ◌∙◌}
 use Rattle.dap_check.proofs.JudgedLines.{judged_none, judged_body, quiet, are_asked}
 use Rattle.dap_check.proofs.judging.judge_unbroken.Goals as goal
 

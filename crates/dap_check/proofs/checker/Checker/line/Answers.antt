@@ -1,10 +1,10 @@
-use Rattle.std.proofs.Common.{◌≡◌, ℕ, ◌+◌, ◌<◌, length, refl, ◌∙◌, subst, arith}
+use Rattle.std.proofs.Common.{◌≡◌, ◌+◌, ◌<◌, length, refl, ◌∙◌, subst, arith}
 use Rattle.std.proofs.lemmas.Bool.Decides.{nat_tests}
 use Rattle.dap_check.specs.Checking.{IsFound}
 use Rattle.dap_check.specs.Transcript.{IsLine}
 use Rattle.dap_check.specs.declared.found.CheckMode.{CheckMode}
 use Rattle.dap_check.proofs.BareLemmas.{least_as}
-use Rattle.dap_check.proofs.JudgedLines.{taken_same, taken_empty, taken_line}
+use Rattle.dap_check.proofs.JudgedLines.{taken_empty, taken_line}
 use Rattle.dap_check.proofs.checker.Checker.line.Goals as goal
 
 pub returns-then-is_empty-clause-found : goal.returns-then-is_empty-clause-found

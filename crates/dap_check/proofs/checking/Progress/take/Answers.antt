@@ -1,4 +1,4 @@
-use Rattle.std.proofs.Common.{◌∷◌, ◌++◌, [], List, Option, sym, subst}
+use Rattle.std.proofs.Common.{◌∷◌, ◌++◌, [], Option, sym, subst}
 use Rattle.dap_check.specs.Checking.{HasTaken, TakesText}
 use Rattle.dap_check.specs.declared.checker.Checker.{Checker}
 use Rattle.dap_check.specs.declared.found.LineFound.{LineFound}

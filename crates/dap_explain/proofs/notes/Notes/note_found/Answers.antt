@@ -12,6 +12,6 @@ pub returns-in-Some-clause-notes : goal.returns-in-Some-clause-notes
 returns-in-Some-clause-notes c =
     on_ok c.note.result _ _ c.note.ensures.notes
     (λ noted mode earlier line whole is notes.
-        let there = given_whole mode earlier line c.args.found.now whole is in
-        let same : c.in-Some.line ≡ line = cc in
-        subst (λ (l : Line). AreNotes c.note.new.self (earlier ++ l ∷ [])) same (noted earlier notes))
+    let there = given_whole mode earlier line c.args.found.now whole is in
+    let same : c.in-Some.line ≡ line = cc in
+    subst (λ (l : Line). AreNotes c.note.new.self (earlier ++ l ∷ [])) same (noted earlier notes))
