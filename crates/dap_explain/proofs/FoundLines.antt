@@ -1,11 +1,11 @@
 -- What is found of a line that was read whole, and what that tells of reasons.
-use Rattle.std.proofs.Common.{◌≡◌, ℕ, ◌+◌, ◌<◌, ◌≤◌, List, [], ◌∷◌, ◌++◌, Bool, true, false, Option, Some, None, Result, Ok, Err, refl, sym, ap, ◌∙◌, subst, arith}
+use Rattle.std.proofs.Common.{◌≡◌, ℕ, ◌+◌, ◌≤◌, List, [], ◌∷◌, ◌++◌, true, false, Option, Some, None, Result, Ok, Err, sym, ap, ◌∙◌, subst, arith}
 use Rattle.std.specs.Prelude.{◌||◌, if◌then◌else◌, OnOk, IfErr}
 use Rattle.dap_check.specs.Checking.{is_of_body, IsFound, TakesText}
 use Rattle.dap_check.specs.declared.found.CheckMode.{CheckMode}
 use Rattle.dap_check.specs.declared.found.LineFound.{LineFound}
 use Rattle.dap_check.specs.declared.line.Line.{Line}
-use Rattle.dap_explain.specs.Explained.{reason_in, IsTold, HasNoted, TakesAndTells}
+use Rattle.dap_explain.specs.Explained.{reason_in, TakesAndTells}
 use Rattle.dap_explain.specs.PrivateNotes.{AreNotes}
 use Rattle.dap_explain.specs.PrivateTrails.{AreBelow}
 use Rattle.dap_explain.specs.declared.reasoning.ExplainedChecker.{ExplainedChecker}

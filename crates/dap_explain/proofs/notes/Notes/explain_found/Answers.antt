@@ -1,4 +1,4 @@
-use Rattle.std.proofs.Common.{◌≡◌, ◌∙◌, ap, sym}
+use Rattle.std.proofs.Common.{◌∙◌, ap, sym}
 use Rattle.dap_explain.specs.Explained.{reason_in}
 use Rattle.dap_explain.proofs.FoundLines.{given_whole}
 use Rattle.dap_explain.proofs.notes.Notes.explain_found.Goals as goal

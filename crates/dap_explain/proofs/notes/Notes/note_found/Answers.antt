@@ -1,4 +1,4 @@
-use Rattle.std.proofs.Common.{◌≡◌, ◌∷◌, ◌++◌, [], List, Some, None, subst}
+use Rattle.std.proofs.Common.{◌≡◌, ◌∷◌, ◌++◌, [], subst}
 use Rattle.dap_check.specs.declared.line.Line.{Line}
 use Rattle.dap_explain.specs.PrivateNotes.{AreNotes}
 use Rattle.dap_explain.proofs.FoundLines.{given_whole}

@@ -1,4 +1,4 @@
-use Rattle.std.proofs.Common.{◌≡◌, ◌+◌, ◌<◌, arith, length, Option, Some, None, sym, subst, true, false}
+use Rattle.std.proofs.Common.{◌≡◌, ◌+◌, ◌<◌, arith, length, Option, subst, true, false}
 use Rattle.std.specs.Prelude.{IfSome}
 use Rattle.dap_check.specs.Checking.{TakesText, taken_by}
 use Rattle.dap_check.specs.declared.found.LineFound.{LineFound}
