@@ -1,7 +1,7 @@
 -- All lines that break a rule: one line more, and the first of them.
 use Rattle.std.proofs.Common.{◌≡◌, List, [], ◌∷◌, ◌++◌, Bool, true, Option, Some, None, refl, sym, ap, ◌∙◌, subst}
 use Rattle.std.proofs.lemmas.List.{append_assoc, append-nil}
-use Rattle.std.specs.Prelude.{◌&&◌, false, is_none}
+use Rattle.std.specs.Prelude.{false, is_some, if◌then◌else◌}
 use Rattle.dap_shape.specs.Faults.{fault_in}
 use Rattle.dap_check.specs.Findings.{finding_at, findings_after, findings, first_of, AreSound}
 use Rattle.dap_check.specs.Legal.{least_broken, IsLegal, IsVerdict}
@@ -67,18 +67,10 @@ found_more mode lines line found is old new was more =
 
 -- ---- messages without a fault
 
-both_true : (a b : Bool) → (a && b) ≡ true → a ≡ true
-both_true true b e = refl
-both_true false b e = absurd (cc e)
-
-neither_true : (a : Bool) → (a && false) ≡ true → ⊥
-neither_true true e = absurd (cc e)
-neither_true false e = absurd (cc e)
-
 -- it was seen where bodies count, and nothing is broken
-pub found_sound : (mode : CheckMode) (earlier : List Line) (line : Line) (broken : Option Broken) → IsBroken mode earlier line broken → (mode.bodies && is_none broken) ≡ true → fault_in line.message.kind ≡ None
-found_sound mode earlier line None is seen = is.1 (both_true mode.bodies true seen)
-found_sound mode earlier line (Some broken) is seen = absurd (neither_true mode.bodies seen)
+pub found_sound : (mode : CheckMode) (earlier : List Line) (line : Line) (broken : Option Broken) → IsBroken mode earlier line broken → (seen : Bool) → seen ≡ (if is_some broken then false else mode.bodies) → seen ≡ true → fault_in line.message.kind ≡ None
+found_sound mode earlier line None is seen e so = is.1 (sym e ∙ so)
+found_sound mode earlier line (Some broken) is seen e so = absurd (cc (e, so))
 
 pub sound_more : (lines : List Line) (sound : List Bool) (line : Line) (is_sound : Bool) → (is_sound ≡ true → fault_in line.message.kind ≡ None) → AreSound lines sound → AreSound (lines ++ line ∷ []) (sound ++ is_sound ∷ [])
 sound_more [] [] line is_sound faultless are = (faultless, tt)

@@ -1,6 +1,6 @@
 -- A line as it was judged, and what a checker has taken with it.
 use Rattle.std.proofs.Common.{◌≡◌, ℕ, ◌+◌, ◌<◌, List, [], ◌∷◌, ◌++◌, length, length-append, Bool, true, false, Option, Some, None, refl, sym, ap, ◌∙◌, subst, arith}
-use Rattle.std.specs.Prelude.{◌||◌, if◌then◌else◌}
+use Rattle.std.specs.Prelude.{not, ◌||◌, if◌then◌else◌}
 use Rattle.dap_command.specs.declared.gathering.GatheredReferences.{GatheredReferences}
 use Rattle.dap_check.specs.Checking.{is_of_body, IsFound, IsBrokenBody, IsBroken, HasTaken, taken_by}
 use Rattle.dap_check.specs.Legal.{least_broken}
@@ -37,6 +37,17 @@ given_back form given read real is true body w b = ap Some (whole_as form given 
 given_back form given read real is false true w b = ap Some (whole_as form given read real is (b refl))
 given_back form given read real is false false w b = refl
 
+-- ---- whether its message is looked through
+
+pub quiet : (bodies sound : Bool) → (not bodies || sound) ≡ true → (F : Type 0) → (sound ≡ true → F) → bodies ≡ true → F
+quiet true true e F faultless asked = faultless refl
+quiet true false e F faultless asked = absurd (cc e)
+quiet false sound e F faultless asked = absurd (cc asked)
+
+pub are_asked : (bodies sound : Bool) → (not bodies || sound) ≡ false → bodies ≡ true
+are_asked true sound e = refl
+are_asked false sound e = absurd (cc e)
+
 -- ---- what it breaks
 
 module _ (mode : CheckMode) (earlier : List Line) (given : GatheredReferences) (real : Line) where
@@ -61,14 +72,16 @@ module _ (mode : CheckMode) (earlier : List Line) (given : GatheredReferences) (
   }
 
   -- what is found of it
-  pub found_of : (judged : LineJudged) → IsJudged mode earlier given real judged → (whole : Bool) → mode.whole ≡ whole
-      → IsFound mode earlier real (record { number = judged.read.line.number; side = judged.read.line.side; broken = judged.broken; line = if whole || is_of_body judged.broken then Some judged.read.line else None })
-  found_of judged is whole asked = record {
+  pub found_of : (judged : LineJudged) → IsJudged mode earlier given real judged → (whole body : Bool) → mode.whole ≡ whole → body ≡ is_of_body judged.broken → (back : Option Line) → back ≡ (if whole || body then Some judged.read.line else None)
+      → IsFound mode earlier real (record { number = judged.read.line.number; side = judged.read.line.side; broken = judged.broken; line = back })
+  found_of judged is whole body asked of_body back e = record {
     numbered = number_as judged.read.form given judged.read.line real is.read;
     side = side_as judged.read.form given judged.read.line real is.read;
     broken = is.broken;
     given_back =
-        ap (λ b. if b || is_of_body judged.broken then Some judged.read.line else None) (sym asked)
+        e
+        ∙ ap (λ b. if b || body then Some judged.read.line else None) (sym asked)
+        ∙ ap (λ b. if mode.whole || b then Some judged.read.line else None) of_body
         ∙ given_back judged.read.form given judged.read.line real is.read mode.whole (is_of_body judged.broken) is.whole is.body;
   }
 

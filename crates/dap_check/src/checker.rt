@@ -27,7 +27,7 @@ pub struct Checker {
 }
 
 impl Checker {
-    ghost use Rattle.std.specs.Prelude.{◌≡◌, ◌≢◌, ◌-◌, ◌^◌, ◌<◌, [], List, ℕ, length, OnOk, IfOk, IfErr};
+    ghost use Rattle.std.specs.Prelude.{◌≡◌, ◌≢◌, ◌-◌, ◌^◌, ◌<◌, [], List, ℕ, length, OnOk, IfOk, IfErr, IfSome};
     ghost use Rattle.dap_check.specs.Checking.{HasTaken, TakesText, taken_by};
     ghost use Rattle.dap_check.specs.Findings.{open_requests};
     ghost use Rattle.dap_check.specs.Transcript.{Refuses};
@@ -65,6 +65,7 @@ impl Checker {
     pub fn line(&mut self, alloc: Global, text: &[u8]) -> Result<Option<LineFound>, CheckFault>
         requires { taken_by self.old < 2 ^ 64 - 1 }
         ensures found { IfOk result (λ found. (mode : CheckMode) (texts : List (List ℕ)) (lines : List TheLine) → HasTaken mode texts lines self.old → TakesText mode texts lines text.now found self.new) }
+        ensures bytes { IfOk result (λ found. IfSome found (λ line. 0 < length text.now)) }
         ensures one { OnOk result (taken_by self.new ≡ taken_by self.old + 1) }
         ensures same { IfErr result (λ fault. taken_by self.new ≡ taken_by self.old) }
         ensures refused { IfErr result (λ fault. Refuses (taken_by self.old + 1) text.now fault × (0 < length text.now)) }
@@ -95,9 +96,14 @@ impl Checker {
             text,
         )?;
         let read = &judged.read;
-        self.seen.note(alloc, &read.line, read.form, &self.given)?;
-        self.number = number;
-        Ok(Some(judged.found(mode.whole)))
+        let noted = self.seen.note(alloc, &read.line, read.form, &self.given);
+        match noted {
+            Ok(()) => {
+                self.number = number;
+                Ok(Some(judged.found(mode.whole)))
+            }
+            Err(_) => Err(CheckFault::OutOfMemory),
+        }
     }
 
     /// The requests of the lines taken that nothing has answered, in the order of their lines.

@@ -1,5 +1,5 @@
 //! Whether a transcript is legal, and all that is found in it.
-ghost use Rattle.std.specs.Prelude.{◌≡◌, ◌≢◌, ◌⊎◌, ◌+◌, ◌-◌, ◌^◌, ◌<◌, ◌∷◌, ◌++◌, [], List, ℕ, length, OnOk, IfOk, IfErr, IsErrAnd, MatchResult};
+ghost use Rattle.std.specs.Prelude.{◌≡◌, ◌≢◌, ◌⊎◌, ◌+◌, ◌-◌, ◌^◌, ◌<◌, ◌∷◌, ◌++◌, [], List, ℕ, length, OnOk, IfOk, IfErr, IsErrAnd, MatchResult, is_some, false, if◌then◌else◌};
 ghost use Rattle.std.specs.Str.Lines.{lines};
 ghost use Rattle.dap_check.specs.Checking.{taken_by, IsFound};
 ghost use Rattle.dap_check.specs.Findings.{finding_at, findings, first_of, AreSound, IsReport};
@@ -60,6 +60,16 @@ fn push_broken(
     Ok(())
 }
 
+/// Whether it was seen that a message has no fault: bodies count, and nothing is broken.
+fn is_seen_sound(bodies: bool, broken: &Option<Broken>) -> bool
+    ensures { result ≡ (if is_some broken.now then false else bodies) }
+{
+    match broken {
+        None => bodies,
+        Some(_) => false,
+    }
+}
+
 /// How far checking has come.
 #[derive(Drop)]
 pub(crate) struct Progress {
@@ -89,7 +99,9 @@ impl Progress {
         ensures checker { self.new.checker ≡ self.old.checker }
     {
         push_broken(&mut self.findings, found.number, &found.broken)?;
-        self.sound.push(mode.bodies && found.broken.is_none())
+        let is_sound = is_seen_sound(mode.bodies, &found.broken);
+        self.sound.push(is_sound)?;
+        Ok(())
     }
 
     /// Takes the text of the next line.
@@ -101,7 +113,10 @@ impl Progress {
     {
         match self.checker.line(alloc, text)? {
             None => Ok(()),
-            Some(found) => Ok(self.keep(mode, &found)?),
+            Some(found) => match self.keep(mode, &found) {
+                Ok(()) => Ok(()),
+                Err(_) => Err(CheckFault::OutOfMemory),
+            },
         }
     }
 }

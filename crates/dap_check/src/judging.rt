@@ -1,5 +1,5 @@
 //! What a line breaks by rule 8, where it breaks none of the seven.
-ghost use Rattle.std.specs.Prelude.{◌≡◌, List, IfOk, IfErr, IsTrue, Some, None, true, if◌then◌else◌};
+ghost use Rattle.std.specs.Prelude.{◌≡◌, ◌||◌, List, IfOk, IfErr, IsTrue, Some, None, true, if◌then◌else◌};
 ghost use Rattle.dap_command.specs.declared.gathering.GatheredReferences.{GatheredReferences};
 ghost use Rattle.dap_shape.specs.Faults.{fault_in};
 ghost use Rattle.dap_check.specs.Checking.{is_of_body, IsFound, IsBrokenBody};
@@ -36,7 +36,8 @@ impl LineJudged {
         let LineJudged { read, broken } = self;
         let number = read.line.number;
         let side = read.line.side;
-        let is_given_back = whole || is_of_rule_8(&broken);
+        let is_of_8 = is_of_rule_8(&broken);
+        let is_given_back = is_either(whole, is_of_8);
         LineFound {
             number,
             side,
@@ -50,6 +51,12 @@ fn is_of_rule_8(broken: &Option<Broken>) -> bool
     ensures { result ≡ is_of_body broken.now }
 {
     matches!(broken, Some(Broken::Body(_)))
+}
+
+fn is_either(one: bool, other: bool) -> bool
+    ensures { result ≡ (one || other) }
+{
+    one || other
 }
 
 fn given_back(is_given_back: bool, line: Line) -> Option<Line>
@@ -79,7 +86,7 @@ fn whole_line(
 
 /// What a message breaks by rule 8.
 fn body_broken(alloc: Global, kind: &Kind) -> Result<Option<Broken>, AllocError>
-    ensures { IfOk result (IsBrokenBody (fault_in kind.now)) }
+    ensures { IfOk result (IsBrokenBody kind.now) }
 {
     match message_fault(alloc, kind)? {
         None => Ok(None),
@@ -100,10 +107,8 @@ fn judge_unbroken(
     ensures judged { IfOk result (λ judged. (mode : TheMode) (earlier : List TheLine) (given : GatheredReferences) (real : TheLine) → mode.bodies ≡ bodies → IsLine number text.now real → IsReadAs read.form given read.line real → (IsTrue read.is_sound → fault_in real.message.kind ≡ None) → (mode.whole ≡ true → read.form ≡ Form.Whole) → least_broken mode.any_seq earlier real ≡ None → IsJudged mode earlier given real judged) }
     ensures refused { IfErr result (Refuses number text.now) }
 {
-    if !bodies {
-        return Ok(LineJudged { read, broken: None });
-    }
-    if read.is_sound {
+    let is_done = is_either(!bodies, read.is_sound);
+    if is_done {
         return Ok(LineJudged { read, broken: None });
     }
     let line = whole_line(alloc, scratch, number, read, text)?;

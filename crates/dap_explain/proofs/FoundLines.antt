@@ -1,14 +1,14 @@
 -- What is found of a line that was read whole, and what that tells of reasons.
-use Rattle.std.proofs.Common.{◌≡◌, ℕ, ◌+◌, ◌<◌, ◌≤◌, List, [], ◌∷◌, ◌++◌, Bool, true, false, Option, Some, None, refl, sym, ap, ◌∙◌, subst, arith}
-use Rattle.std.specs.Prelude.{◌||◌, if◌then◌else◌}
+use Rattle.std.proofs.Common.{◌≡◌, ℕ, ◌+◌, ◌≤◌, List, [], ◌∷◌, ◌++◌, true, false, Option, Some, None, Result, Ok, Err, sym, ap, ◌∙◌, subst, arith}
+use Rattle.std.specs.Prelude.{◌||◌, if◌then◌else◌, OnOk, IfErr}
 use Rattle.dap_check.specs.Checking.{is_of_body, IsFound, TakesText}
 use Rattle.dap_check.specs.declared.found.CheckMode.{CheckMode}
 use Rattle.dap_check.specs.declared.found.LineFound.{LineFound}
 use Rattle.dap_check.specs.declared.line.Line.{Line}
-use Rattle.dap_explain.specs.Explained.{reason_in, IsTold, HasNoted, TakesAndTells}
+use Rattle.dap_explain.specs.Explained.{reason_in, TakesAndTells}
 use Rattle.dap_explain.specs.PrivateNotes.{AreNotes}
 use Rattle.dap_explain.specs.PrivateTrails.{AreBelow}
-use Rattle.dap_explain.specs.declared.explained.ExplainedChecker.{ExplainedChecker}
+use Rattle.dap_explain.specs.declared.reasoning.ExplainedChecker.{ExplainedChecker}
 use Rattle.dap_explain.specs.declared.reason.Reason.{Reason}
 use Rattle.dap_explain.specs.declared.trail.Trails.{Trails}
 
@@ -26,6 +26,11 @@ below_more m n found less below = record {
   disconnected = omega (arith, less, below.disconnected);
 }
 
+-- whether a line was noted or memory was refused
+pub below_noted : {A E : Type 0} (result : Result A E) (old new : Trails) → OnOk result ((n : ℕ) → AreBelow n old → AreBelow (n + 1) new) → IfErr result (λ refused. new ≡ old) → (n m : ℕ) → m ≡ n + 1 → AreBelow n old → AreBelow m new
+below_noted (Ok x) old new noted same n m e below = subst (λ k. AreBelow k new) (sym e) (noted n below)
+below_noted (Err x) old new noted same n m e below = subst (AreBelow m) (sym same) (below_more n m old (omega (arith, e)) below)
+
 -- ---- what is told of it
 
 module _ (mode : CheckMode) (texts : List (List ℕ)) (lines : List Line) (text : List ℕ) (found : LineFound) (new : ExplainedChecker) (takes : TakesText mode texts lines text (Some found) new.checker) (asked : new.explains ≡ mode.whole) where
@@ -34,10 +39,12 @@ module _ (mode : CheckMode) (texts : List (List ℕ)) (lines : List Line) (text 
   told_plain plain =
       let line = takes.1.0 in (
         takes.0,
-        line,
-        takes.1.1,
-        record { found = takes.1.2; reason = ap (λ b. if b then reason_in found.broken lines line else None) (sym plain) },
-        record { taken = takes.1.3; asked = asked; notes = λ whole. absurd (cc (whole, plain)) },
+        (
+          line,
+          takes.1.1,
+          record { found = takes.1.2; reason = ap (λ b. if b then reason_in found.broken lines line else None) (sym plain) },
+          record { taken = takes.1.3; asked = asked; notes = λ whole. absurd (cc (whole, plain)) },
+        ),
       )
 
   -- with one
@@ -46,8 +53,10 @@ module _ (mode : CheckMode) (texts : List (List ℕ)) (lines : List Line) (text 
   told_whole whole reason tells notes =
       let line = takes.1.0 in (
         takes.0,
-        line,
-        takes.1.1,
-        record { found = takes.1.2; reason = tells line takes.1.2 ∙ ap (λ b. if b then reason_in found.broken lines line else None) (sym whole) },
-        record { taken = takes.1.3; asked = asked; notes = λ again. notes line takes.1.2 },
+        (
+          line,
+          takes.1.1,
+          record { found = takes.1.2; reason = tells line takes.1.2 ∙ ap (λ b. if b then reason_in found.broken lines line else None) (sym whole) },
+          record { taken = takes.1.3; asked = asked; notes = λ again. notes line takes.1.2 },
+        ),
       )

@@ -8,7 +8,7 @@ use Rattle.dap_check.specs.declared.found.CheckMode.{CheckMode}
 use Rattle.dap_check.specs.declared.line.Line.{Line}
 use Rattle.dap_explain.specs.PrivateNotes.{AreNotes}
 use Rattle.dap_explain.specs.Reasons.{reason_of}
-use Rattle.dap_explain.specs.declared.explained.ExplainedChecker.{ExplainedChecker}
+use Rattle.dap_explain.specs.declared.reasoning.ExplainedChecker.{ExplainedChecker}
 use Rattle.dap_explain.specs.declared.reason.Reason.{Reason}
 use Rattle.dap_explain.specs.declared.told.LineTold.{LineTold}
 

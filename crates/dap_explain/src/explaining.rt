@@ -359,6 +359,16 @@ impl Notes {
         }
     }
 
+    fn explain_broken(&self, broken: &Broken, line: &Option<Line>) -> Option<Reason>
+        requires { AreBelow (2 ^ 64 - 1) self.now.trails }
+        ensures { (earlier : List TheLine) (real : TheLine) → line.now ≡ Some real → AreNotes self.now earlier → result ≡ reason_in (Some broken.now) earlier real }
+    {
+        match broken {
+            Broken::Rule(rule) => self.explain_given(*rule, line),
+            Broken::Body(_) => None,
+        }
+    }
+
     /// Why the next line breaks the one of the seven rules that was found, where it was read whole.
     pub(crate) fn explain_found(&self, found: &LineFound) -> Option<Reason>
         requires { AreBelow (2 ^ 64 - 1) self.now.trails }
@@ -366,8 +376,7 @@ impl Notes {
     {
         match &found.broken {
             None => None,
-            Some(Broken::Body(_)) => None,
-            Some(Broken::Rule(rule)) => self.explain_given(*rule, &found.line),
+            Some(broken) => self.explain_broken(broken, &found.line),
         }
     }
 }

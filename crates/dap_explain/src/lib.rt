@@ -8,19 +8,19 @@
 
 mod asked;
 mod decisions;
-mod explained;
 mod explaining;
 mod given;
 pub mod laws;
 mod notes;
 mod reason;
+mod reasoning;
 mod sentences;
 mod told;
 mod trail;
 mod walking;
 
-pub use explained::ExplainedChecker;
 pub use reason::{Reason, ReferenceKind};
+pub use reasoning::ExplainedChecker;
 pub use sentences::sentence;
 pub use told::LineTold;
 pub use walking::{Explainer, explain};

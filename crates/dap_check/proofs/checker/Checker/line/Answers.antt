@@ -1,10 +1,10 @@
-use Rattle.std.proofs.Common.{◌≡◌, ℕ, ◌+◌, ◌<◌, length, refl, ◌∙◌, subst, arith}
+use Rattle.std.proofs.Common.{◌≡◌, ◌+◌, ◌<◌, length, refl, ◌∙◌, subst, arith}
 use Rattle.std.proofs.lemmas.Bool.Decides.{nat_tests}
 use Rattle.dap_check.specs.Checking.{IsFound}
 use Rattle.dap_check.specs.Transcript.{IsLine}
 use Rattle.dap_check.specs.declared.found.CheckMode.{CheckMode}
 use Rattle.dap_check.proofs.BareLemmas.{least_as}
-use Rattle.dap_check.proofs.JudgedLines.{taken_same, taken_empty, taken_line}
+use Rattle.dap_check.proofs.JudgedLines.{taken_empty, taken_line}
 use Rattle.dap_check.proofs.checker.Checker.line.Goals as goal
 
 pub returns-then-is_empty-clause-found : goal.returns-then-is_empty-clause-found
@@ -12,8 +12,8 @@ returns-then-is_empty-clause-found c = λ mode texts lines is.
     let none : length c.args.text.now ≡ 0 = grind (arith, nat_tests) in
     (none, taken_empty mode texts lines c.args.self.now _ is refl c.args.text.now refl none refl)
 
-pub returns-clause-found : goal.returns-clause-found
-returns-clause-found c = λ mode texts lines is.
+pub returns-in-Ok-clause-found : goal.returns-in-Ok-clause-found
+returns-in-Ok-clause-found c = λ mode texts lines is.
     let self = c.args.self.now in
     let read = c.in_ok-read.ensures.line in
     let real = read.0 in
@@ -22,11 +22,8 @@ returns-clause-found c = λ mode texts lines is.
     let least = c.least_broken-rule.ensures lines is.seen ∙ least_as self.mode.any_seq lines c.in_ok-read.read.form _ c.in_ok-read.read.line real read.2 in
     let judged = c.in_ok-judged.ensures.judged self.mode lines _ real refl read.1 read.2 read.3 c.in_ok-read.ensures.whole least in
     let found = c.found.ensures self.mode lines _ real refl judged in
-    let seen = c.in_ok-note.ensures.seen lines real judged.read is.seen in
+    let seen = c.in-Ok.ensures.seen lines real judged.read is.seen in
     let P : CheckMode → Type 0 = λ m. IsFound m lines real c.found.result in (
       some,
-      real,
-      numbered,
-      subst P is.asked found,
-      taken_line mode texts lines self _ is refl c.args.text.now refl real some read.1 seen,
+      (real, numbered, subst P is.asked found, taken_line mode texts lines self _ is refl c.args.text.now refl real some read.1 seen),
     )

@@ -19,7 +19,7 @@ pub struct ExplainedChecker {
 }
 
 impl ExplainedChecker {
-    ghost use Rattle.std.specs.Prelude.{◌≡◌, ◌≢◌, ◌-◌, ◌^◌, ◌<◌, [], List, ℕ, length, OnOk, IfOk, IfErr};
+    ghost use Rattle.std.specs.Prelude.{◌≡◌, ◌≢◌, ◌-◌, ◌^◌, ◌<◌, [], List, ℕ, length, OnOk, IfOk, IfErr, IfSome};
     ghost use Rattle.dap_check.specs.Findings.{open_requests};
     ghost use Rattle.dap_check.specs.Transcript.{Refuses};
     ghost use Rattle.dap_check.specs.declared.checking.CheckFault.{CheckFault};
@@ -53,6 +53,7 @@ impl ExplainedChecker {
     pub fn line(&mut self, alloc: Global, text: &[u8]) -> Result<Option<LineTold>, CheckFault>
         requires { noted_by self.old < 2 ^ 64 - 1 }
         ensures told { IfOk result (λ told. (mode : CheckMode) (texts : List (List ℕ)) (lines : List TheLine) → HasNoted mode texts lines self.old → TakesAndTells mode texts lines text.now told self.new) }
+        ensures bytes { IfOk result (λ told. IfSome told (λ line. 0 < length text.now)) }
         ensures one { OnOk result (noted_by self.new ≡ noted_by self.old + 1) }
         ensures refused { IfErr result (λ fault. Refuses (noted_by self.old + 1) text.now fault × (0 < length text.now)) }
         ensures kept { IfErr result (λ fault. fault ≢ CheckFault.OutOfMemory → (mode : CheckMode) (texts : List (List ℕ)) (lines : List TheLine) → HasNoted mode texts lines self.old → HasNoted mode texts lines self.new) }
@@ -67,8 +68,10 @@ impl ExplainedChecker {
                     }));
                 }
                 let reason = self.notes.explain_found(&found);
-                self.notes.note_found(alloc, &found)?;
-                Ok(Some(LineTold { found, reason }))
+                match self.notes.note_found(alloc, &found) {
+                    Ok(()) => Ok(Some(LineTold { found, reason })),
+                    Err(_) => Err(CheckFault::OutOfMemory),
+                }
             }
         }
     }
