@@ -18,7 +18,7 @@ use Rattle.dap_envelope.specs.declared.message.Message.{Message}
 use Rattle.dap_envelope.specs.declared.message.Kind.{Kind}
 use Rattle.dap_envelope.specs.declared.message.Kind.TheVariants.{Request, Response, Event, Other}
 use Rattle.dap_check.specs.PrivateBare.{is_looked_at, bare_kind, bare_line, IsReadBody, IsReadAs, gathered_frames, gathered_holders_for, gathered_holders, gathers_frame, gathers_holder}
-use Rattle.dap_check.specs.PrivateKept.{AreCounts, ArePending, ArePhases, AreReferences, reference_after, IsFirst, Begins, AreWaiting, open_at, waiting_after, IsOffered, offer_after, IsSeen}
+use Rattle.dap_check.specs.Kept.{AreCounts, ArePending, ArePhases, AreReferences, reference_after, IsFirst, Begins, AreWaiting, open_at, waiting_after, IsOffered, offer_after, IsSeen}
 use Rattle.dap_check.specs.Findings.{is_open_as, request_of}
 use Rattle.dap_check.specs.Legal.{all_rules, least_broken}
 use Rattle.dap_check.specs.Lines.{other_side, is_among, is_of, asks, answers, succeeds}

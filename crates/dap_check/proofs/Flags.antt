@@ -14,7 +14,7 @@ use Rattle.dap_command.specs.declared.command.Gate.TheVariants.{BreakpointLocati
 use Rattle.dap_check.specs.Since.{is_open, last_since, Past}
 use Rattle.dap_check.specs.Lines.{body_of, succeeds, is_adapter_event}
 use Rattle.dap_check.specs.Rules.{initialize, offered_capabilities, offered_since, offered_after, updated_to}
-use Rattle.dap_check.specs.PrivateKept.{offer_after}
+use Rattle.dap_check.specs.Kept.{offer_after}
 use Rattle.dap_check.specs.Places.{named_by, is_on, is_off, switches_on, switches_off}
 use Rattle.dap_check.specs.declared.line.Line.{Line}
 use Rattle.dap_check.specs.SinceLaws.{any_push, open_push, last_push}

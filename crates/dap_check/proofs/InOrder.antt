@@ -20,7 +20,7 @@ use Rattle.dap_envelope.specs.declared.message.Kind.{Kind}
 use Rattle.dap_envelope.specs.declared.message.Kind.TheVariants.{Request, Response, Event, Other}
 use Rattle.dap_check.specs.Findings.{request_at, is_answered, open_requests, is_open_as}
 use Rattle.dap_check.specs.Lines.{same_side}
-use Rattle.dap_check.specs.PrivateKept.{items_at, kept_at, AreWaiting, ArePending}
+use Rattle.dap_check.specs.Kept.{items_at, kept_at, AreWaiting, ArePending}
 use Rattle.dap_check.specs.PrivateOpen.{AreFrom, all_kept, last_at, IsInOrder}
 use Rattle.dap_check.specs.declared.line.Line.{Line}
 use Rattle.dap_check.specs.declared.line.Side.{Side}

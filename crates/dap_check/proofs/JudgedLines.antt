@@ -6,7 +6,7 @@ use Rattle.dap_check.specs.Checking.{is_of_body, IsFound, IsBrokenBody, IsBroken
 use Rattle.dap_check.specs.Legal.{least_broken}
 use Rattle.dap_check.specs.PrivateBare.{IsReadAs}
 use Rattle.dap_check.specs.PrivateJudged.{IsJudged}
-use Rattle.dap_check.specs.PrivateKept.{IsSeen}
+use Rattle.dap_check.specs.Kept.{IsSeen}
 use Rattle.dap_check.specs.Transcript.{IsLine, AreLines}
 use Rattle.dap_check.specs.declared.checker.Checker.{Checker}
 use Rattle.dap_check.specs.declared.found.Broken.{Broken}

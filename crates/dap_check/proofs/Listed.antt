@@ -9,7 +9,7 @@ use Rattle.dap_envelope.specs.declared.message.Kind.TheVariants.{Request, Respon
 use Rattle.dap_check.specs.FindingLaws.{IsFindingIn, FindingsAreBrokenRules, IsUnansweredIn, OpenRequestsAreUnanswered, OpenRequestsWait}
 use Rattle.dap_check.specs.Findings.{finding_at, findings_after, findings, request_at, request_of, is_answered, open_requests, is_open_as}
 use Rattle.dap_check.specs.Legal.{least_broken}
-use Rattle.dap_check.specs.PrivateKept.{is_any_there, is_for}
+use Rattle.dap_check.specs.Kept.{is_any_there, is_for}
 use Rattle.dap_check.specs.declared.line.Line.{Line}
 use Rattle.dap_check.specs.declared.line.Side.{Side}
 use Rattle.dap_check.specs.declared.rule.AnySeq.{AnySeq}

@@ -6,7 +6,7 @@ use Rattle.dap_command.specs.Capabilities.{offered_by}
 use Rattle.dap_check.specs.Since.{last_since, Past}
 use Rattle.dap_check.specs.Lines.{succeeds, body_of}
 use Rattle.dap_check.specs.Rules.{offered_since, after_line, initialize}
-use Rattle.dap_check.specs.PrivateKept.{IsOffered, offer_after}
+use Rattle.dap_check.specs.Kept.{IsOffered, offer_after}
 use Rattle.dap_check.specs.declared.line.Line.{Line}
 use Rattle.dap_check.specs.declared.offer.Offer.{Offer}
 use Rattle.dap_check.specs.SinceLaws.{last_push, last_later}

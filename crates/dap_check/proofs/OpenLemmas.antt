@@ -10,7 +10,7 @@ use Rattle.dap_envelope.specs.declared.message.Kind.{Kind}
 use Rattle.dap_envelope.specs.declared.message.Kind.TheVariants.{Request, Response, Event, Other}
 use Rattle.dap_check.specs.Findings.{request_at, request_of, is_answered, open_requests, is_open_as}
 use Rattle.dap_check.specs.Lines.{other_side, asks_as, asks_for, answers}
-use Rattle.dap_check.specs.PrivateKept.{is_any_there, is_for, kept_at, open_at, AreWaiting, ArePending, pending_of, waiting_after}
+use Rattle.dap_check.specs.Kept.{is_any_there, is_for, kept_at, open_at, AreWaiting, ArePending, pending_of, waiting_after}
 use Rattle.dap_check.specs.Rules.{waits, waits_for}
 use Rattle.dap_check.specs.SinceLaws.{any_push}
 use Rattle.dap_check.specs.declared.line.Line.{Line}

@@ -5,7 +5,7 @@ use Rattle.dap_envelope.specs.declared.message.Kind.{Kind}
 use Rattle.dap_shape.specs.Faults.{fault_in}
 use Rattle.dap_shape.specs.Seen.{fault_seen}
 use Rattle.dap_check.specs.Legal.{number_of, least_broken}
-use Rattle.dap_check.specs.PrivateKept.{IsSeen}
+use Rattle.dap_check.specs.Kept.{IsSeen}
 use Rattle.dap_check.specs.Transcript.{IsLine, AreLines}
 use Rattle.dap_check.specs.declared.checker.Checker.{Checker}
 use Rattle.dap_check.specs.declared.found.Broken.{Broken}

@@ -9,7 +9,7 @@ pub mod FindingLaws
 pub mod Places
 pub mod Transcript
 pub mod ReadingLaws
-pub mod PrivateKept
+pub mod Kept
 pub mod PrivateOpen
 pub mod PrivateBare
 pub mod Checking

@@ -3,7 +3,7 @@ ghost use Rattle.std.specs.Prelude.{◌≡◌, ◌++◌, List, OnOk, IfOk};
 ghost use Rattle.std.specs.BTreeMap as tree;
 ghost use Rattle.std.specs.Ordering.{nat_cmp};
 ghost use Rattle.dap_check.specs.Findings.{open_requests};
-ghost use Rattle.dap_check.specs.PrivateKept.{ArePending};
+ghost use Rattle.dap_check.specs.Kept.{ArePending};
 ghost use Rattle.dap_check.specs.PrivateOpen.{all_kept, AreFrom, IsInOrder};
 ghost use Rattle.dap_check.specs.declared.line.Line.{Line};
 

@@ -10,8 +10,8 @@ use Rattle.dap_check.specs.Since.{is_open}
 use Rattle.dap_check.specs.SinceLaws.{open_push}
 use Rattle.dap_check.specs.declared.line.Line.{Line}
 use Rattle.dap_check.specs.declared.line.Side.{Side}
-use Rattle.dap_explain.specs.PrivateNotes.{answered_by, command_in, last_at, waiting_at, last_after, waiting_after, AreAsked}
-use Rattle.dap_explain.specs.PrivateTrails.{closed_after, last_of}
+use Rattle.dap_explain.specs.KeptNotes.{answered_by, command_in, last_at, waiting_at, last_after, waiting_after, AreAsked}
+use Rattle.dap_explain.specs.KeptTrails.{closed_after, last_of}
 use Rattle.dap_explain.specs.Reasons.{trail}
 use Rattle.dap_explain.specs.declared.asked.Asked.{Asked}
 use Rattle.dap_explain.specs.declared.trail.Opened.{Opened}

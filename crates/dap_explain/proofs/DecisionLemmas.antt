@@ -6,8 +6,8 @@ use Rattle.dap_command.specs.declared.command.Gate.TheVariants.{BreakpointLocati
 use Rattle.dap_check.specs.Places.{decided_by, switches_on, switches_off, is_on, is_off}
 use Rattle.dap_check.specs.SinceLaws.{open_push}
 use Rattle.dap_check.specs.declared.line.Line.{Line}
-use Rattle.dap_explain.specs.PrivateNotes.{decided_in, decision_after, is_on_in, line_in, IsDecided}
-use Rattle.dap_explain.specs.PrivateTrails.{closed_after}
+use Rattle.dap_explain.specs.KeptNotes.{decided_in, decision_after, is_on_in, line_in, IsDecided}
+use Rattle.dap_explain.specs.KeptTrails.{closed_after}
 use Rattle.dap_explain.specs.Reasons.{trail, no_line, decides}
 use Rattle.dap_explain.specs.declared.decisions.Decision.{Decision}
 use Rattle.dap_explain.specs.declared.trail.Opened.{Opened}

@@ -5,7 +5,7 @@ use Rattle.std.specs.List.{list_any}
 use Rattle.std.specs.Str.Lines.{lines}
 use Rattle.std.proofs.lemmas.Bool.Decides.{nat_tests}
 use Rattle.std.proofs.lemmas.List.{length-append, append_assoc, take-append-drop, take_all, take_at}
-use Rattle.dap_explain.specs.PrivateNotes.{AreNotes}
+use Rattle.dap_explain.specs.KeptNotes.{AreNotes}
 use Rattle.dap_explain.specs.PrivateWalks.{IsWalk, IsAt, IsExplained}
 use Rattle.dap_explain.specs.Reasons.{reason_of}
 use Rattle.dap_check.specs.ReadingLaws.{TextsHaveOneTranscript, TextsHaveOneFault, TranscriptsGrow}

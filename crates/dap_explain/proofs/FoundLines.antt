@@ -6,8 +6,8 @@ use Rattle.dap_check.specs.declared.found.CheckMode.{CheckMode}
 use Rattle.dap_check.specs.declared.found.LineFound.{LineFound}
 use Rattle.dap_check.specs.declared.line.Line.{Line}
 use Rattle.dap_explain.specs.Explained.{reason_in, TakesAndTells}
-use Rattle.dap_explain.specs.PrivateNotes.{AreNotes}
-use Rattle.dap_explain.specs.PrivateTrails.{AreBelow}
+use Rattle.dap_explain.specs.KeptNotes.{AreNotes}
+use Rattle.dap_explain.specs.KeptTrails.{AreBelow}
 use Rattle.dap_explain.specs.declared.reasoning.ExplainedChecker.{ExplainedChecker}
 use Rattle.dap_explain.specs.declared.reason.Reason.{Reason}
 use Rattle.dap_explain.specs.declared.trail.Trails.{Trails}

@@ -6,8 +6,8 @@ use Rattle.std.specs.BTreeMap as tree
 use Rattle.std.specs.Ordering.{nat_cmp}
 use Rattle.dap_check.specs.Rules.{resumes, gives_frame, gives_holder}
 use Rattle.dap_check.specs.declared.line.Line.{Line}
-use Rattle.dap_explain.specs.PrivateNotes.{given_at, first_of, last_given, IsWithin, AreGiven}
-use Rattle.dap_explain.specs.PrivateTrails.{closed_after, last_of}
+use Rattle.dap_explain.specs.KeptNotes.{given_at, first_of, last_given, IsWithin, AreGiven}
+use Rattle.dap_explain.specs.KeptTrails.{closed_after, last_of}
 use Rattle.dap_explain.specs.Reasons.{trail, gives}
 use Rattle.dap_explain.specs.declared.given.Given.{Given}
 use Rattle.dap_explain.specs.declared.given.LastGiven.{LastGiven}

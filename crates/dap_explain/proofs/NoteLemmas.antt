@@ -12,7 +12,7 @@ use Rattle.dap_check.specs.Places.{switches_on, switches_off}
 use Rattle.dap_check.specs.declared.line.Line.{Line}
 use Rattle.dap_check.specs.declared.line.Side.{Side}
 use Rattle.dap_check.specs.declared.line.Side.TheVariants.{Client, Adapter}
-use Rattle.dap_explain.specs.PrivateNotes.{waiting_at, last_at, asked_of, decision_at, is_on_in, line_in, AreAsked, AreNotes}
+use Rattle.dap_explain.specs.KeptNotes.{waiting_at, last_at, asked_of, decision_at, is_on_in, line_in, AreAsked, AreNotes}
 use Rattle.dap_explain.specs.Reasons.{trail, no_line, decides, not_asked_reason, answer_reason, gate_reason, is_open_still}
 use Rattle.dap_explain.specs.declared.asked.Asked.{Asked}
 use Rattle.dap_explain.specs.declared.decisions.Decision.{Decision}

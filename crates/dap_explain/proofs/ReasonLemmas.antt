@@ -20,7 +20,7 @@ use Rattle.dap_check.specs.Places.{named_by, switches_on, switches_off, OfferIsB
 use Rattle.dap_explain.specs.Reasons.{trail, opened_of, closing_line, no_line, is_open_still, waiting_reason, not_asked_reason, answer_reason, second_request_reason, why_early, no_initialize_reason, why_uninitialized, asks_to_initialize, decides, gate_reason, gate_asked, gives, other_kind, unknown_reason, number_reason, kind_named, reference_reason, why_ended, BrokenRulesHaveReasons}
 use Rattle.dap_check.specs.Rules.{is_out_of_place, is_too_early, initialize, disconnect, offered_capabilities, permits, is_refused, is_frame, is_holder, is_unknown, number_at, naming_frames, naming_holders, resumes}
 use Rattle.dap_check.specs.Since.{is_open, first_since, last_since, Past}
-use Rattle.dap_explain.specs.PrivateTrails.{closed_after, trail_after}
+use Rattle.dap_explain.specs.KeptTrails.{closed_after, trail_after}
 use Rattle.dap_check.specs.declared.line.Line.{Line}
 use Rattle.dap_check.specs.declared.line.Side.{Side}
 use Rattle.dap_check.specs.declared.line.Side.TheVariants.{Client, Adapter}

@@ -4,7 +4,7 @@ use Rattle.std.specs.Prelude.{count_by, cond, option_map, option_and_then}
 use Rattle.std.proofs.lemmas.List.Sums.{sum_by_push}
 use Rattle.dap_check.specs.Since.{first_since, last_since, Past}
 use Rattle.dap_explain.specs.Reasons.{trail, opened_of, closing_line}
-use Rattle.dap_explain.specs.PrivateTrails.{closed_after, trail_after, opens_of, closes_of, trails}
+use Rattle.dap_explain.specs.KeptTrails.{closed_after, trail_after, opens_of, closes_of, trails}
 use Rattle.dap_check.specs.declared.line.Line.{Line}
 use Rattle.dap_check.specs.declared.line.Side.TheVariants.{Client, Adapter}
 use Rattle.dap_explain.specs.declared.trail.Trail.{Trail}

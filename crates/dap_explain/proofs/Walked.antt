@@ -4,8 +4,8 @@ use Rattle.std.specs.Prelude.{take}
 use Rattle.std.specs.Str.Lines.{lines}
 use Rattle.std.proofs.Math.Seq.{take-append-add}
 use Rattle.std.proofs.lemmas.List.{length-append, append_assoc, append-nil}
-use Rattle.dap_explain.specs.PrivateNotes.{AreNotes}
-use Rattle.dap_explain.specs.PrivateTrails.{AreBelow}
+use Rattle.dap_explain.specs.KeptNotes.{AreNotes}
+use Rattle.dap_explain.specs.KeptTrails.{AreBelow}
 use Rattle.dap_explain.specs.PrivateWalks.{IsWalk}
 use Rattle.dap_check.specs.ReadingLaws.{TranscriptsGrow}
 use Rattle.dap_check.specs.Transcript.{IsLine, AreLines, FirstRefused, Refuses}

@@ -6,7 +6,7 @@ use Rattle.dap_check.specs.declared.found.Broken.{Broken}
 use Rattle.dap_check.specs.declared.found.Broken.TheVariants.{Rule as OfRule, Body as OfBody}
 use Rattle.dap_check.specs.declared.found.CheckMode.{CheckMode}
 use Rattle.dap_check.specs.declared.line.Line.{Line}
-use Rattle.dap_explain.specs.PrivateNotes.{AreNotes}
+use Rattle.dap_explain.specs.KeptNotes.{AreNotes}
 use Rattle.dap_explain.specs.Reasons.{reason_of}
 use Rattle.dap_explain.specs.declared.reasoning.ExplainedChecker.{ExplainedChecker}
 use Rattle.dap_explain.specs.declared.reason.Reason.{Reason}

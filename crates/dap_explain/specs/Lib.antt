@@ -1,6 +1,6 @@
 pub mod Reasons
 pub mod Sentences
-pub mod PrivateTrails
-pub mod PrivateNotes
+pub mod KeptTrails
+pub mod KeptNotes
 pub mod PrivateWalks
 pub mod Explained

@@ -2,8 +2,8 @@
 use Rattle.std.specs.Prelude.{◌≡◌, ◌≢◌, ◌⊎◌, ℕ, ◌+◌, ◌≤◌, ◌==◌, List, [], ◌∷◌, ◌++◌, length, take, false, Option, None, Result, Ok, Err, IfErr}
 use Rattle.std.specs.List.{list_any}
 use Rattle.std.specs.Str.Lines.{lines}
-use Rattle.dap_explain.specs.PrivateNotes.{AreNotes}
-use Rattle.dap_explain.specs.PrivateTrails.{AreBelow}
+use Rattle.dap_explain.specs.KeptNotes.{AreNotes}
+use Rattle.dap_explain.specs.KeptTrails.{AreBelow}
 use Rattle.dap_explain.specs.Reasons.{reason_of}
 use Rattle.dap_check.specs.Transcript.{AreLines, FirstRefused}
 use Rattle.dap_check.specs.declared.checking.CheckFault.{CheckFault}

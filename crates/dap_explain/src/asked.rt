@@ -1,7 +1,7 @@
 //! The requests of a side, by their numbers.
 ghost use Rattle.std.specs.Prelude.{◌≡◌, ◌==◌, ◌∷◌, ◌++◌, [], List, ℕ, Some, None, OnOk, if◌then◌else◌, bytes_eq};
 ghost use Rattle.std.specs.List.{list_any};
-ghost use Rattle.dap_explain.specs.PrivateNotes.{AreAsked, last_at, waiting_at, last_after, waiting_after, answered_by};
+ghost use Rattle.dap_explain.specs.KeptNotes.{AreAsked, last_at, waiting_at, last_after, waiting_after, answered_by};
 ghost use Rattle.dap_check.specs.declared.line.Line.{Line as TheLine};
 ghost use Rattle.dap_check.specs.declared.line.Side.{Side as TheSide};
 

@@ -2,7 +2,7 @@
 ghost use Rattle.std.specs.Prelude.{◌≡◌, ◌∷◌, ◌++◌, [], List};
 ghost use Rattle.dap_json.specs.Lent.{lent_data};
 ghost use Rattle.dap_command.specs.declared.command.Gate.{Gate as TheGate};
-ghost use Rattle.dap_explain.specs.PrivateNotes.{AreDecisions, decision_at, decision_after};
+ghost use Rattle.dap_explain.specs.KeptNotes.{AreDecisions, decision_at, decision_after};
 ghost use Rattle.dap_check.specs.Places.{decided_by, named_by};
 ghost use Rattle.dap_check.specs.declared.line.Line.{Line as TheLine};
 

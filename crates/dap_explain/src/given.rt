@@ -5,7 +5,7 @@ ghost use Rattle.std.specs.Ordering.{nat_cmp};
 ghost use Rattle.serde_json.specs.View.{view};
 ghost use Rattle.dap_command.specs.GivenReferences.{frame_ids, holders_of};
 ghost use Rattle.dap_check.specs.Rules.{contains_number, gives_frame, gives_holder, resumes};
-ghost use Rattle.dap_explain.specs.PrivateNotes.{AreGiven, given_at, last_given};
+ghost use Rattle.dap_explain.specs.KeptNotes.{AreGiven, given_at, last_given};
 ghost use Rattle.dap_check.specs.declared.line.Line.{Line as TheLine};
 
 use crate::reason::ReferenceKind;

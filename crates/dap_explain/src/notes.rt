@@ -1,7 +1,7 @@
 //! All that is kept of the lines so far, for the reasons of findings at the next one.
 ghost use Rattle.std.specs.Prelude.{◌≡◌, ◌+◌, ◌-◌, ◌^◌, ◌<◌, ◌∷◌, ◌++◌, [], List, ℕ, OnOk, IfErr, true};
-ghost use Rattle.dap_explain.specs.PrivateNotes.{AreNotes, asked_of};
-ghost use Rattle.dap_explain.specs.PrivateTrails.{AreBelow};
+ghost use Rattle.dap_explain.specs.KeptNotes.{AreNotes, asked_of};
+ghost use Rattle.dap_explain.specs.KeptTrails.{AreBelow};
 ghost use Rattle.dap_check.specs.Checking.{IsFound};
 ghost use Rattle.dap_check.specs.declared.found.CheckMode.{CheckMode};
 ghost use Rattle.dap_check.specs.declared.line.Line.{Line as TheLine};

@@ -1,7 +1,7 @@
 //! A checker of lines that has the reason of each finding at hand.
 ghost use Rattle.std.specs.Prelude.{◌+◌};
 ghost use Rattle.dap_check.specs.Checking.{taken_by};
-ghost use Rattle.dap_explain.specs.PrivateTrails.{AreBelow};
+ghost use Rattle.dap_explain.specs.KeptTrails.{AreBelow};
 
 use crate::notes::Notes;
 use crate::told::LineTold;

@@ -1,6 +1,6 @@
 //! What is looked for among the earlier lines, and what is found: what each reason asks for that does not hang on the line.
 ghost use Rattle.std.specs.Prelude.{◌≡◌, ◌+◌, ◌-◌, ◌^◌, ◌<◌, ◌≤◌, ◌∷◌, ◌++◌, [], List, ℕ};
-ghost use Rattle.dap_explain.specs.PrivateTrails.{closed_after, trail_after, opens_of, closes_of, trails, AreBelow};
+ghost use Rattle.dap_explain.specs.KeptTrails.{closed_after, trail_after, opens_of, closes_of, trails, AreBelow};
 ghost use Rattle.dap_check.specs.declared.line.Line.{Line as TheLine};
 
 use dap_check::{Line, Side, words};

@@ -2,8 +2,8 @@
 ghost use Rattle.std.specs.Prelude.{◌≡◌, ◌≢◌, ◌⊎◌, ◌+◌, ◌-◌, ◌^◌, ◌<◌, ◌≤◌, ◌==◌, ◌∷◌, ◌++◌, [], List, ℕ, take, false, IfOk, IfErr, OnOk};
 ghost use Rattle.std.specs.List.{list_any};
 ghost use Rattle.std.specs.Str.Lines.{lines};
-ghost use Rattle.dap_explain.specs.PrivateNotes.{AreNotes};
-ghost use Rattle.dap_explain.specs.PrivateTrails.{AreBelow};
+ghost use Rattle.dap_explain.specs.KeptNotes.{AreNotes};
+ghost use Rattle.dap_explain.specs.KeptTrails.{AreBelow};
 ghost use Rattle.dap_explain.specs.PrivateWalks.{IsWalk, IsAt, IsExplained};
 ghost use Rattle.dap_explain.specs.Reasons.{reason_of};
 ghost use Rattle.dap_check.specs.Transcript.{IsLine, AreLines, FirstRefused, IsRefusedIn, Refuses};

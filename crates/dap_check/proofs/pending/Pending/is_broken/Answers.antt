@@ -1,7 +1,7 @@
 use Rattle.std.proofs.Common.{ap, sym, ◌∙◌, not}
 use Rattle.std.specs.List.{list_any}
 use Rattle.dap_check.specs.Lines.{other_side}
-use Rattle.dap_check.specs.PrivateKept.{is_any_there, is_for, kept_at, pending_of}
+use Rattle.dap_check.specs.Kept.{is_any_there, is_for, kept_at, pending_of}
 use Rattle.dap_check.specs.Rules.{is_out_of_place}
 use Rattle.dap_check.proofs.OpenLemmas.{has_as, has_for_as}
 use Rattle.dap_check.proofs.pending.Pending.is_broken.Goals as goal

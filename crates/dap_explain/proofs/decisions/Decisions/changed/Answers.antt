@@ -1,6 +1,6 @@
 use Rattle.std.proofs.Common.{◌≡◌}
 use Rattle.dap_command.specs.declared.command.Gate.{Gate}
-use Rattle.dap_explain.specs.PrivateNotes.{decision_at, decision_after}
+use Rattle.dap_explain.specs.KeptNotes.{decision_at, decision_after}
 use Rattle.dap_explain.specs.declared.decisions.Decisions.{Decisions}
 use Rattle.dap_explain.proofs.DecisionLemmas.{by_gate}
 use Rattle.dap_explain.proofs.decisions.Decisions.changed.Goals as goal

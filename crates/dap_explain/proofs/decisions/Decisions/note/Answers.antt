@@ -1,4 +1,4 @@
-use Rattle.dap_explain.specs.PrivateNotes.{decision_at}
+use Rattle.dap_explain.specs.KeptNotes.{decision_at}
 use Rattle.dap_explain.proofs.DecisionLemmas.{decided_later}
 use Rattle.dap_explain.proofs.decisions.Decisions.note.Goals as goal
 

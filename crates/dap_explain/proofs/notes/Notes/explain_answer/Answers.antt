@@ -1,7 +1,7 @@
 use Rattle.std.proofs.Common.{ap, ◌∙◌}
 use Rattle.std.specs.Prelude.{bytes_eq}
 use Rattle.std.specs.List.{list_any}
-use Rattle.dap_explain.specs.PrivateNotes.{asked_of, waiting_at}
+use Rattle.dap_explain.specs.KeptNotes.{asked_of, waiting_at}
 use Rattle.dap_explain.proofs.NoteLemmas.{answer_by}
 use Rattle.dap_explain.proofs.notes.Notes.explain_answer.Goals as goal
 

@@ -1,6 +1,6 @@
 use Rattle.std.proofs.Common.{◌≡◌, ◌∷◌, ◌++◌, [], subst}
 use Rattle.dap_check.specs.declared.line.Line.{Line}
-use Rattle.dap_explain.specs.PrivateNotes.{AreNotes}
+use Rattle.dap_explain.specs.KeptNotes.{AreNotes}
 use Rattle.dap_explain.proofs.FoundLines.{given_whole}
 use Rattle.dap_explain.proofs.Outcomes.{on_ok}
 use Rattle.dap_explain.proofs.notes.Notes.note_found.Goals as goal

@@ -1,4 +1,4 @@
--- How the code keeps trails of the lines so far, line by line. Only private clauses and proofs cite this file.
+-- How the code keeps trails of the lines so far, line by line.
 use Rattle.std.specs.Prelude.{ℕ, ◌+◌, ◌<◌, List, Bool, false, if◌then◌else◌, Option, Some, None}
 use Rattle.dap_check.specs.Lines.{is_of, asks, answers, succeeds}
 use Rattle.dap_check.specs.Rules.{initialize, disconnect}

@@ -1,4 +1,4 @@
--- What is kept of the lines so far, and what that tells of them. Only private clauses and proofs cite this file.
+-- What is kept of the lines so far, and what that tells of them.
 use Rattle.std.specs.Prelude.{◌≡◌, ℕ, ◌≤◌, ◌==◌, List, [], ◌∷◌, ◌++◌, length, drop, Bool, false, ◌&&◌, bytes_eq, if◌then◌else◌, Option, Some, None, option_map, unwrap_or}
 use Rattle.std.specs.List.{list_any}
 use Rattle.std.specs.BTreeMap as tree
@@ -11,7 +11,7 @@ use Rattle.dap_check.specs.Lines.{other_side, is_of, asks_as, asks_for, answers}
 use Rattle.dap_check.specs.Places.{decided_by, switches_on, switches_off}
 use Rattle.dap_check.specs.Rules.{resumes}
 use Rattle.dap_check.specs.Since.{is_open}
-use Rattle.dap_explain.specs.PrivateTrails.{last_of, trails}
+use Rattle.dap_explain.specs.KeptTrails.{last_of, trails}
 use Rattle.dap_explain.specs.Reasons.{trail, no_line, decides, gives}
 use Rattle.dap_check.specs.declared.line.Line.{Line}
 use Rattle.dap_check.specs.declared.line.Side.{Side}
