@@ -262,7 +262,7 @@ refused-if true s q ok name body r f w e n h =
     let long = length-with s q ok name (command_named name) body m.command m.named in
     let c : ClientModel = client_model_of s in
     let none = answered-if (list_any (has_seq q) c.asked) (list_any (is_same (ask_of q name)) c.asked) (taken_by c (ask_of q name) ok) (record c { fault = Some model.CommandMismatch }) (record c { fault = Some model.Unmatched }) m.is_asked.number m.is_asked.same refl in
-    inl (over.1, (none, subst (λ (n : ℕ). s.limits.references < n) long many))
+    inl (over.1, none, subst (λ (n : ℕ). s.limits.references < n) long many)
 refused-if false s q ok name body r f w e n h =
     let same : CommandMismatch q ≡ f = cc in
     let there = is-asked q r s.outstanding e in

@@ -21,7 +21,7 @@ use Rattle.dap_client.specs.Changes.{signal_named}
 use Rattle.dap_client.specs.Projection.{entry_ask, asks_seen, kind_if, client_model_of, eyes_of, IsClient, IsTaken, is_repeated, failure_of, EachStepProjects}
 use Rattle.dap_client.specs.Seen.{after_event}
 use Rattle.dap_client.specs.Session.{Session}
-use Rattle.dap_client.specs.Taking.{Made, made_without_writing, failure_at_once, failure_in, request_from, made_by_declining, keeps_or_declines, takes_request, takes_as}
+use Rattle.dap_client.specs.Taking.{Made, made_without_writing, failure_at_once, failure_in, made_by_declining, keeps_or_declines, takes_request, takes_as}
 use Rattle.dap_client.proofs.AnswersProject.{none-given, response-refused, response-taken}
 use Rattle.dap_client.proofs.Refusals.{none-holds}
 use Rattle.dap_client.proofs.RequestLemmas.{contains-seen, length-asks, without-seen}
@@ -63,7 +63,7 @@ event-taken s seq name body made e =
 abbrev taken_by : Bool → Option Failure → Entry → Session → Result Made ClientFault
 taken_by repeated failure r s = if repeated then Err (RepeatedSeq r.seq) else keeps_or_declines failure r s
 
-request-taken : (b : Bool) (o : Option Failure) (s : Session) (r : Entry) → is_repeated r.seq s ≡ b → failure_of r.command r.arguments s ≡ o → takes_request r s ≡ taken_by b o r s
+request-taken : (b : Bool) (o : Option Failure) (s : Session) (r : Entry) → is_repeated r s ≡ b → failure_of r s ≡ o → takes_request r s ≡ taken_by b o r s
 request-taken b o s r h f =
     ap (λ (x : Bool). taken_by x (failure_in r s) r s) (contains-seen r.seq s.incoming ∙ h)
     ∙ ap (λ (x : Option Failure). taken_by b x r s) (ap (λ (n : ℕ). failure_at_once r.command r.arguments s.seen.announced (nat_le s.limits.requests n)) (sym (length-asks s.incoming)) ∙ f)
@@ -78,12 +78,12 @@ above-test m n h = grind (arith, nat_tests)
 abbrev declined_by : Bool → Entry → Failure → Session → Result Made ClientFault
 declined_by left r failure s = if left then Ok (made_by_declining r.seq r.command failure s) else Err SeqExhausted
 
-request-declined : (s : Session) (r : Entry) (failure : Failure) → is_repeated r.seq s ≡ false → failure_of r.command r.arguments s ≡ Some failure → s.used < s.limits.seq
+request-declined : (s : Session) (r : Entry) (failure : Failure) → is_repeated r s ≡ false → failure_of r s ≡ Some failure → s.used < s.limits.seq
     → takes_request r s ≡ Ok (made_by_declining r.seq r.command failure s)
 request-declined s r failure h f n =
     request-taken false (Some failure) s r h f ∙ ap (λ (x : Bool). declined_by x r failure s) (below-test s.used s.limits.seq n)
 
-request-exhausts : (s : Session) (r : Entry) (failure : Failure) → is_repeated r.seq s ≡ false → failure_of r.command r.arguments s ≡ Some failure → s.limits.seq ≤ s.used → takes_request r s ≡ Err SeqExhausted
+request-exhausts : (s : Session) (r : Entry) (failure : Failure) → is_repeated r s ≡ false → failure_of r s ≡ Some failure → s.limits.seq ≤ s.used → takes_request r s ≡ Err SeqExhausted
 request-exhausts s r failure h f n =
     request-taken false (Some failure) s r h f ∙ ap (λ (x : Bool). declined_by x r failure s) (above-test s.used s.limits.seq n)
 
@@ -101,12 +101,12 @@ each_step_projects = record {
   told = event-taken;
   hears = λ s seq name body. (made_without_writing (record s { seen = after_event (signal_named name) body s.seen }), refl);
   ignores = λ s seq tag. refl;
-  repeats = λ s seq name arguments h. request-taken true (failure_of name arguments s) s (request_from seq name arguments) h refl;
-  keeps = λ s seq name arguments h f. request-taken false None s (request_from seq name arguments) h f;
+  repeats = λ s r h. request-taken true (failure_of r s) s r h refl;
+  keeps = λ s r h f. request-taken false None s r h f;
   kept = λ s r. record { client_is = refl; given_is = refl; announced_is = refl; incoming_is = map-append (λ (k : Kept). entry_ask k.entry) s.incoming (kept_unparked r ∷ []) };
-  declines = λ s seq name arguments failure h f n. request-declined s (request_from seq name arguments) failure h f n;
+  declines = request-declined;
   declined = λ s q name failure. record { client_is = refl; given_is = refl; announced_is = refl; incoming_is = refl };
-  exhausts = λ s seq name arguments failure h f n. request-exhausts s (request_from seq name arguments) failure h f n;
+  exhausts = request-exhausts;
   terminal = λ s q. record { client_is = refl; given_is = refl; announced_is = refl; incoming_is = without-seen q s.incoming };
   others = λ s q. record { outstanding_is = refl; incoming_is = refl };
   free = none-holds;

@@ -1,5 +1,5 @@
 -- A client as the model of two ends has it (dap_ends): commands in classes, of a message its number, its name, whether it is a success and its references, of a session the phase, the requests and the references. What the adapter offers, the arguments of calls and bytes are left out.
-use Rattle.std.specs.Prelude.{◌≡◌, ◌⊎◌, ℕ, ◌+◌, ◌≤◌, ◌<◌, ◌==◌, nat_le, List, [], ◌∷◌, ◌++◌, length, map, Bool, true, false, if◌then◌else◌, Option, Some, None, Ok, Err}
+use Rattle.std.specs.Prelude.{◌≡◌, ◌⊎◌, ℕ, ◌+◌, ◌≤◌, ◌<◌, ◌==◌, nat_le, List, [], ◌∷◌, ◌++◌, length, map, Bool, true, false, if◌then◌else◌, Option, Some, None, Result, Ok, Err}
 use Rattle.std.specs.List.{list_any}
 use Rattle.serde_json.specs.Data.{Data}
 use Rattle.dap_ends.specs.Messages.{Ask, code, has_seq}
@@ -37,7 +37,7 @@ use Rattle.dap_client.specs.Sending.{holds, first_of, refusals_in_order, request
 use Rattle.dap_client.specs.Session.{Session}
 use Rattle.dap_client.specs.Table.{is_sent_in}
 use Rattle.dap_client.specs.TerminalResponse.{after_terminal_response}
-use Rattle.dap_client.specs.Taking.{Made, made_without_writing, failure_at_once, request_from, made_by_declining, made_by_keeping, takes_as}
+use Rattle.dap_client.specs.Taking.{Made, made_without_writing, failure_at_once, made_by_declining, made_by_keeping, takes_as}
 use Rattle.dap_client.specs.Within.{IsWithin}
 
 -- ---- commands
@@ -192,9 +192,9 @@ pub record KeepsRequests (s : Session) (outstanding incoming : List Kept) : Type
   pub outstanding_is : s.outstanding ≡ outstanding
   pub incoming_is : s.incoming ≡ incoming
 
--- a response or an event was taken, with these references: the model takes it too, and nothing is written
-pub record IsTaken (s : Session) (seen : Seen) (outstanding : List Kept) (x : small.Message) (refs : List Ref)
-    (made : Made) : Type 0 where
+-- a response or an event was taken, with these references: the model takes it too; nothing is written
+pub record IsTaken (s : Session) (seen : Seen) (outstanding : List Kept) (x : small.Message)
+    (refs : List Ref) (made : Made) : Type 0 where
   pub after : Hears s x refs made.after
   pub silent : made.written ≡ []
   pub used : made.after.used ≡ s.used
@@ -204,21 +204,27 @@ pub record IsTaken (s : Session) (seen : Seen) (outstanding : List Kept) (x : sm
 abbrev pub model_fault : Session → small.Message → Option model.ClientFault
 model_fault s x = (client_model_takes (client_model_of s) x).fault
 
--- a response closes the client: the model has the same fault, or none and would know too many references
+-- a response closes the client: the model has the same fault, or none and too many references
 abbrev pub IsRefused : Session → ℕ → small.Message → List Ref → ClientFault → Type 0
 IsRefused s q x refs f =
-    ((f ≡ ReferenceLimit) × ((model_fault s x ≡ None) × (s.limits.references < length (given_with (eyes_of s) x refs))))
+    ((f ≡ ReferenceLimit) × (model_fault s x ≡ None)
+    × (s.limits.references < length (given_with (eyes_of s) x refs)))
     ⊎ (((f ≡ Unmatched q) × (model_fault s x ≡ Some model.Unmatched))
     ⊎ ((f ≡ CommandMismatch q) × (model_fault s x ≡ Some model.CommandMismatch)))
 
--- a request of the adapter with that number is kept
-abbrev pub is_repeated : ℕ → Session → Bool
-is_repeated seq s = list_any (has_seq seq) (asks_seen s.incoming)
+-- what comes of a request of the adapter
+abbrev pub takes_adapter_request : Entry → Session → Result Made ClientFault
+takes_adapter_request r s = takes_as r.seq (Request r.command r.arguments) s
 
--- the failure with which one that comes is answered at once, if it is
-abbrev pub failure_of : List ℕ → Option Data → Session → Option Failure
-failure_of name arguments s =
-    failure_at_once name arguments s.seen.announced (nat_le s.limits.requests (length (asks_seen s.incoming)))
+-- whether one with its number is kept
+abbrev pub is_repeated : Entry → Session → Bool
+is_repeated r s = list_any (has_seq r.seq) (asks_seen s.incoming)
+
+-- the failure with which it is answered at once, if it is
+abbrev pub failure_of : Entry → Session → Option Failure
+failure_of r s =
+    failure_at_once r.command r.arguments s.seen.announced
+    (nat_le s.limits.requests (length (asks_seen s.incoming)))
 
 pub record EachStepProjects : Type 0 where
   -- what the phase lets a client send
@@ -228,7 +234,8 @@ pub record EachStepProjects : Type 0 where
   pub sent : (s : Session) (c : Call)
       → is_sent_in (command_of c) s.seen.phase s.seen.ready ≡ true → Sends s c (after_send c s)
   pub waits : (s : Session) (c : Call)
-      → KeepsRequests (after_send c s) (s.outstanding ++ kept_unparked (request_of (s.used + 1) c) ∷ []) s.incoming
+      → KeepsRequests (after_send c s)
+      (s.outstanding ++ kept_unparked (request_of (s.used + 1) c) ∷ []) s.incoming
   -- what a written `initialize` announces is what its call says
   pub announced : (a : InitializeCall)
       → runs_terminals (call_tree (call.Initialize a)) ≡ a.supports_run_in_terminal_request
@@ -237,8 +244,8 @@ pub record EachStepProjects : Type 0 where
       → (made : Made) → IsWithin s → takes_as seq (Response q ok name why body) s ≡ Ok made
       → IsTaken s (after_response q ok (command_named name) body s.seen) (without q s.outstanding)
       (response_seen q ok name) (response_references ok name body) made
-  pub few : (s : Session) (seq q : ℕ) (ok : Bool) (name : List ℕ) (why : Option (List ℕ)) (body : Option Data)
-      → (made : Made) → IsWithin s → takes_as seq (Response q ok name why body) s ≡ Ok made
+  pub few : (s : Session) (seq q : ℕ) (ok : Bool) (name : List ℕ) (why : Option (List ℕ))
+      → (body : Option Data) (made : Made) → IsWithin s → takes_as seq (Response q ok name why body) s ≡ Ok made
       → length (given_with (eyes_of s) (response_seen q ok name) (response_references ok name body))
       ≤ s.limits.references
   pub refused : (s : Session) (seq q : ℕ) (ok : Bool) (name : List ℕ) (why : Option (List ℕ)) (body : Option Data)
@@ -252,26 +259,26 @@ pub record EachStepProjects : Type 0 where
   pub hears : (s : Session) (seq : ℕ) (name : List ℕ) (body : Option Data)
       → (made : Made) × (takes_as seq (Event name body) s ≡ Ok made)
   -- a message of another type changes nothing
-  pub ignores : (s : Session) (seq : ℕ) (tag : List ℕ) → takes_as seq (Other tag) s ≡ Ok (made_without_writing s)
+  pub ignores : (s : Session) (seq : ℕ) (tag : List ℕ)
+      → takes_as seq (Other tag) s ≡ Ok (made_without_writing s)
   -- a request of the adapter that comes: it repeats the number of one that is kept
-  pub repeats : (s : Session) (seq : ℕ) (name : List ℕ) (arguments : Option Data) → is_repeated seq s ≡ true
-      → takes_as seq (Request name arguments) s ≡ Err (RepeatedSeq seq)
+  pub repeats : (s : Session) (r : Entry)
+      → is_repeated r s ≡ true → takes_adapter_request r s ≡ Err (RepeatedSeq r.seq)
   -- it is kept
-  pub keeps : (s : Session) (seq : ℕ) (name : List ℕ) (arguments : Option Data) → is_repeated seq s ≡ false
-      → failure_of name arguments s ≡ None
-      → takes_as seq (Request name arguments) s ≡ Ok (made_by_keeping (request_from seq name arguments) s)
+  pub keeps : (s : Session) (r : Entry) → is_repeated r s ≡ false → failure_of r s ≡ None
+      → takes_adapter_request r s ≡ Ok (made_by_keeping r s)
   pub kept : (s : Session) (r : Entry)
       → IsClient (made_by_keeping r s).after
       (client_model_of s) (given_of s) s.seen.announced (asks_seen s.incoming ++ entry_ask r ∷ [])
   -- it is answered at once, where a number is left
-  pub declines : (s : Session) (seq : ℕ) (name : List ℕ) (arguments : Option Data) (failure : Failure)
-      → is_repeated seq s ≡ false → failure_of name arguments s ≡ Some failure → s.used < s.limits.seq
-      → takes_as seq (Request name arguments) s ≡ Ok (made_by_declining seq name failure s)
+  pub declines : (s : Session) (r : Entry) (failure : Failure)
+      → is_repeated r s ≡ false → failure_of r s ≡ Some failure → s.used < s.limits.seq
+      → takes_adapter_request r s ≡ Ok (made_by_declining r.seq r.command failure s)
   pub declined : (s : Session) (q : ℕ) (name : List ℕ) (failure : Failure)
       → UsesNumber s (asks_seen s.incoming) (made_by_declining q name failure s).after
-  pub exhausts : (s : Session) (seq : ℕ) (name : List ℕ) (arguments : Option Data) (failure : Failure)
-      → is_repeated seq s ≡ false → failure_of name arguments s ≡ Some failure → s.limits.seq ≤ s.used
-      → takes_as seq (Request name arguments) s ≡ Err SeqExhausted
+  pub exhausts : (s : Session) (r : Entry) (failure : Failure)
+      → is_repeated r s ≡ false → failure_of r s ≡ Some failure → s.limits.seq ≤ s.used
+      → takes_adapter_request r s ≡ Err SeqExhausted
   -- one that was kept is answered
   pub terminal : (s : Session) (q : ℕ)
       → UsesNumber s (requests_without q (asks_seen s.incoming)) (after_terminal_response q s)
