@@ -15,7 +15,7 @@ use Rattle.dap_command.specs.declared.command.Command.{Command}
 use Rattle.dap_command.specs.declared.command.Command.TheVariants as command
 use Rattle.dap_tables.specs.Given.{references_given_by, references_given_in}
 use Rattle.dap_tables.specs.Known.{with_pairs}
-use Rattle.dap_tables.specs.Outstanding.{entry_with}
+use Rattle.dap_tables.specs.Outstanding.{entry_with, without}
 use Rattle.dap_tables.specs.declared.entry.Entry.{Entry}
 use Rattle.dap_tables.specs.declared.reference_kind.ReferenceKind.{ReferenceKind}
 use Rattle.dap_client.specs.declared.change.Change.{Change}
@@ -189,8 +189,22 @@ length-with : (s : Session) (q : ℕ) (ok : Bool) (name : List ℕ) (o : Option 
 length-with s q ok name None body c e = cc
 length-with s q ok name (Some d) body c e = sym (length-seen (known_after ok (Some d) body s.seen)) ∙ ap length (with-known s q ok name d body)
 
+abbrev Taken : Session → ℕ → Bool → List ℕ → Option Data → Made → Type 0
+Taken s q ok name body made =
+    IsTaken s (after_response q ok (command_named name) body s.seen) (without q s.outstanding)
+    (small.Response (ask_of q name) ok) (references_seen (references_given_if ok (command_named name) body)) made
+
+-- the references known with those of the response
+abbrev known_with : Session → ℕ → Bool → List ℕ → Option Data → ℕ
+known_with s q ok name body =
+    length (given_with (eyes_of s) (small.Response (ask_of q name) ok) (references_seen (references_given_if ok (command_named name) body)))
+
+pub record TakesAnswer (s : Session) (q : ℕ) (ok : Bool) (name : List ℕ) (body : Option Data) (made : Made) : Type 0 where
+  pub taken : Taken s q ok name body made
+  pub few : known_with s q ok name body ≤ s.limits.references
+
 answer-is : (s : Session) (q : ℕ) (ok : Bool) (name : List ℕ) (body : Option Data) (o : Option Entry) (made : Made) → IsWithin s → entry_with q s.outstanding ≡ o → takes_answer o q ok name body s ≡ Ok made
-    → IsTaken s (after_response q ok (command_named name) body s.seen) (small.Response (ask_of q name) ok) (references_seen (references_given_if ok (command_named name) body)) made
+    → TakesAnswer s q ok name body made
 answer-is s q ok name body None made w e h = cc
 answer-is s q ok name body (Some r) made w e h =
     let whole : Made = made_by_answer q (after_response q ok (command_named name) body s.seen) s in
@@ -201,19 +215,23 @@ answer-is s q ok name body (Some r) made w e h =
     let m = matched s q name r w e one.0 in
     let few = within-test (length (known_after ok (command_named name) body s.seen)) s.limits.references two.0 in
     let long = length-with s q ok name (command_named name) body m.command m.named in
-    subst (λ (x : Made). IsTaken s (after_response q ok (command_named name) body s.seen) (small.Response (ask_of q name) ok) (references_seen (references_given_if ok (command_named name) body)) x) is (record {
+    let taken : Taken s q ok name body whole = record {
       after = answer-taken s q ok name (command_named name) body m.command m.named refl m.is_asked;
-      few = subst (λ (n : ℕ). n ≤ s.limits.references) long few;
       silent = refl;
       used = refl;
       seen_is = refl;
-    })
+      requests = record { outstanding_is = refl; incoming_is = refl };
+    } in
+    record {
+      taken = subst (λ (x : Made). Taken s q ok name body x) is taken;
+      few = subst (λ (n : ℕ). n ≤ s.limits.references) long few;
+    }
 
 fault-if : (b : Bool) (made : Made) (f : ClientFault) → (let x : Result Made ClientFault = Ok made in if b then x else Err ReferenceLimit) ≡ Err f → (b ≡ false) × (f ≡ ReferenceLimit)
 fault-if true made f e = cc
 fault-if false made f e = let same : ReferenceLimit ≡ f = cc in (refl, sym same)
 
--- the model's fault, by whether a request of that number, and of that name, is outstanding
+-- the model's fault, if any, by whether a request of that number, and of that name, is outstanding
 unmatched-if : (b : Bool) (x c : ClientModel) → b ≡ false → (let m : ClientModel = (if b then x else record c { fault = Some model.Unmatched }) in m).fault ≡ Some model.Unmatched
 unmatched-if true x c e = cc
 unmatched-if false x c e = refl
@@ -222,6 +240,11 @@ mismatched-if : (a b : Bool) (x y c : ClientModel) → a ≡ true → b ≡ fals
 mismatched-if true true x y c e h = cc
 mismatched-if true false x y c e h = refl
 mismatched-if false b x y c e h = cc
+
+answered-if : (a b : Bool) (x y z : ClientModel) → a ≡ true → b ≡ true → x.fault ≡ None → (let m : ClientModel = (if a then (if b then x else y) else z) in m).fault ≡ None
+answered-if true true x y z e h g = g
+answered-if true false x y z e h g = cc
+answered-if false b x y z e h g = cc
 
 abbrev taken_by : ClientModel → Ask → Bool → ClientModel
 taken_by c a ok = record c { phase = answered_phase c.phase c.resumer a ok; asked = requests_without a.seq c.asked }
@@ -237,7 +260,9 @@ refused-if true s q ok name body r f w e n h =
     let m = matched s q name r w e n in
     let many = past-test known s.limits.references over.0 in
     let long = length-with s q ok name (command_named name) body m.command m.named in
-    inl (over.1, subst (λ (n : ℕ). s.limits.references < n) long many)
+    let c : ClientModel = client_model_of s in
+    let none = answered-if (list_any (has_seq q) c.asked) (list_any (is_same (ask_of q name)) c.asked) (taken_by c (ask_of q name) ok) (record c { fault = Some model.CommandMismatch }) (record c { fault = Some model.Unmatched }) m.is_asked.number m.is_asked.same refl in
+    inl (over.1, none, subst (λ (n : ℕ). s.limits.references < n) long many)
 refused-if false s q ok name body r f w e n h =
     let same : CommandMismatch q ≡ f = cc in
     let there = is-asked q r s.outstanding e in
@@ -252,8 +277,7 @@ answer-refused s q ok name body None f w e h =
     inr (inl (sym same, unmatched-if (list_any (has_seq q) c.asked) matched c (none-asked q s.outstanding e)))
 answer-refused s q ok name body (Some r) f w e h = refused-if (bytes_eq name r.command) s q ok name body r f w e refl h
 
-pub response-taken : (s : Session) (q : ℕ) (ok : Bool) (name : List ℕ) (body : Option Data) (made : Made) → IsWithin s → takes_answer (entry_with q s.outstanding) q ok name body s ≡ Ok made
-    → IsTaken s (after_response q ok (command_named name) body s.seen) (small.Response (ask_of q name) ok) (references_seen (references_given_if ok (command_named name) body)) made
+pub response-taken : (s : Session) (q : ℕ) (ok : Bool) (name : List ℕ) (body : Option Data) (made : Made) → IsWithin s → takes_answer (entry_with q s.outstanding) q ok name body s ≡ Ok made → TakesAnswer s q ok name body made
 response-taken s q ok name body made w h = answer-is s q ok name body (entry_with q s.outstanding) made w refl h
 
 pub response-refused : (s : Session) (q : ℕ) (ok : Bool) (name : List ℕ) (body : Option Data) (f : ClientFault) → IsWithin s → takes_answer (entry_with q s.outstanding) q ok name body s ≡ Err f → Refused s q ok name body f

@@ -1,5 +1,5 @@
 -- Outstanding requests as the model has them: which one a response answers.
-use Rattle.std.proofs.Common.{◌≡◌, ℕ, List, [], ◌∷◌, Bool, true, false, Option, Some, None, refl, sym, ap, ◌∙◌, subst, true≢false}
+use Rattle.std.proofs.Common.{◌≡◌, ℕ, List, [], ◌∷◌, length, Bool, true, false, Option, Some, None, refl, sym, ap, ◌∙◌, subst, true≢false, arith}
 use Rattle.std.specs.Prelude.{◌==◌, ◌&&◌, ◌||◌, not, bytes_eq, if◌then◌else◌}
 use Rattle.std.specs.List.{list_any}
 use Rattle.dap_ends.specs.Messages.{Ask, has_seq, is_same, code}
@@ -29,6 +29,10 @@ without-seen q (k ∷ ks) = with-if (not (k.entry.seq == q)) k (without q ks) (r
 pub contains-seen : (q : ℕ) (ks : List Kept) → contains_seq q ks ≡ list_any (has_seq q) (asks_seen ks)
 contains-seen q [] = refl
 contains-seen q (k ∷ ks) = ap (λ (b : Bool). (k.entry.seq == q) || b) (contains-seen q ks)
+
+pub length-asks : (ks : List Kept) → length (asks_seen ks) ≡ length ks
+length-asks [] = refl
+length-asks (k ∷ ks) = let ih = length-asks ks in omega arith
 
 -- a request with the number is found exactly where one is asked
 found-if : (b : Bool) (r : Entry) (o : Option Entry) (c : Bool) → (o ≡ None → c ≡ false) → (if b then Some r else o) ≡ None → (b || c) ≡ false

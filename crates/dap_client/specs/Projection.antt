@@ -1,5 +1,5 @@
 -- A client as the model of two ends has it (dap_ends): commands in classes, of a message its number, its name, whether it is a success and its references, of a session the phase, the requests and the references. What the adapter offers, the arguments of calls and bytes are left out.
-use Rattle.std.specs.Prelude.{◌≡◌, ◌⊎◌, ℕ, ◌≤◌, ◌<◌, ◌==◌, List, [], ◌∷◌, ◌++◌, length, map, Bool, true, false, if◌then◌else◌, Option, Some, None, Ok, Err}
+use Rattle.std.specs.Prelude.{◌≡◌, ◌⊎◌, ℕ, ◌+◌, ◌≤◌, ◌<◌, ◌==◌, nat_le, List, [], ◌∷◌, ◌++◌, length, map, Bool, true, false, if◌then◌else◌, Option, Some, None, Result, Ok, Err}
 use Rattle.std.specs.List.{list_any}
 use Rattle.serde_json.specs.Data.{Data}
 use Rattle.dap_ends.specs.Messages.{Ask, code, has_seq}
@@ -9,33 +9,35 @@ use Rattle.dap_ends.specs.ClientModel as model
 use Rattle.dap_ends.specs.World.{after_using_number}
 use Rattle.dap_ends.specs.References.{Ref, Eyes, references_carried, given_sent, given_with, given_after}
 use Rattle.dap_ends.specs.Pair.{announced_after_sending}
-use Rattle.dap_call.specs.CallTree.{command_of}
+use Rattle.dap_call.specs.CallTree.{call_tree, command_of}
 use Rattle.dap_call.specs.declared.call.Call.{Call}
 use Rattle.dap_call.specs.declared.call.Call.TheVariants as call
+use Rattle.dap_call.specs.declared.call.Initialize.{Initialize as InitializeCall}
 use Rattle.dap_command.specs.Command.{command_named, name_of}
 use Rattle.dap_command.specs.declared.command.Command.{Command}
 use Rattle.dap_command.specs.declared.command.Command.TheVariants as command
 use Rattle.dap_body.specs.declared.failure.Failure.{Failure}
-use Rattle.dap_envelope.specs.declared.message.Kind.TheVariants.{Response}
+use Rattle.dap_envelope.specs.declared.message.Kind.TheVariants.{Request, Response, Event, Other}
 use Rattle.dap_tables.specs.Given.{references_given_by, references_given_in}
-use Rattle.dap_tables.specs.Outstanding.{Kept, contains_seq}
+use Rattle.dap_tables.specs.Outstanding.{Kept, kept_unparked, without}
 use Rattle.dap_tables.specs.declared.entry.Entry.{Entry}
 use Rattle.dap_tables.specs.declared.reference_kind.ReferenceKind.{ReferenceKind}
 use Rattle.dap_tables.specs.declared.reference_kind.ReferenceKind.TheVariants.{Frame, Holder}
 use Rattle.dap_client.specs.declared.fault.ClientFault.{ClientFault}
-use Rattle.dap_client.specs.declared.fault.ClientFault.TheVariants.{Unmatched, CommandMismatch, ReferenceLimit}
+use Rattle.dap_client.specs.declared.fault.ClientFault.TheVariants.{Unmatched, CommandMismatch, RepeatedSeq, ReferenceLimit, SeqExhausted}
 use Rattle.dap_client.specs.declared.fault.SendFault.{SendFault}
 use Rattle.dap_client.specs.declared.phase.Phase.{Phase}
 use Rattle.dap_client.specs.declared.phase.Phase.TheVariants as phase
 use Rattle.dap_client.specs.declared.signal.Signal.{Signal}
 use Rattle.dap_client.specs.declared.signal.Signal.TheVariants as signal
+use Rattle.dap_client.specs.Changes.{signal_named}
 use Rattle.dap_client.specs.References.{references_used_by}
-use Rattle.dap_client.specs.Seen.{Seen, after_response, after_event}
-use Rattle.dap_client.specs.Sending.{holds, first_of, refusals_in_order, after_send}
+use Rattle.dap_client.specs.Seen.{Seen, runs_terminals, after_response, after_event}
+use Rattle.dap_client.specs.Sending.{holds, first_of, refusals_in_order, request_of, after_send}
 use Rattle.dap_client.specs.Session.{Session}
 use Rattle.dap_client.specs.Table.{is_sent_in}
 use Rattle.dap_client.specs.TerminalResponse.{after_terminal_response}
-use Rattle.dap_client.specs.Taking.{Made, made_by_declining, made_by_keeping, takes_as}
+use Rattle.dap_client.specs.Taking.{Made, made_without_writing, failure_at_once, made_by_declining, made_by_keeping, takes_as}
 use Rattle.dap_client.specs.Within.{IsWithin}
 
 -- ---- commands
@@ -185,23 +187,44 @@ response_seen q ok name = small.Response (ask_of q name) ok
 abbrev pub response_references : Bool → List ℕ → Option Data → List Ref
 response_references ok name body = references_seen (references_given_if ok (command_named name) body)
 
--- a response was taken: the model takes it too, and knows no more references by it than there is room for
-pub record IsTaken (s : Session) (seen : Seen) (x : small.Message) (refs : List Ref) (made : Made) : Type 0 where
+-- the requests of both directions, whole: with their arguments, and whether they are parked
+pub record KeepsRequests (s : Session) (outstanding incoming : List Kept) : Type 0 where
+  pub outstanding_is : s.outstanding ≡ outstanding
+  pub incoming_is : s.incoming ≡ incoming
+
+-- a response or an event was taken, with these references: the model takes it too; nothing is written
+pub record IsTaken (s : Session) (seen : Seen) (outstanding : List Kept) (x : small.Message)
+    (refs : List Ref) (made : Made) : Type 0 where
   pub after : Hears s x refs made.after
-  pub few : length (given_with (eyes_of s) x refs) ≤ s.limits.references
   pub silent : made.written ≡ []
   pub used : made.after.used ≡ s.used
   pub seen_is : made.after.seen ≡ seen
+  pub requests : KeepsRequests made.after outstanding s.incoming
 
 abbrev pub model_fault : Session → small.Message → Option model.ClientFault
 model_fault s x = (client_model_takes (client_model_of s) x).fault
 
--- a response closes the client: the model would know too many references, or has the same fault
+-- a response closes the client: the model has the same fault, or none and too many references
 abbrev pub IsRefused : Session → ℕ → small.Message → List Ref → ClientFault → Type 0
 IsRefused s q x refs f =
-    ((f ≡ ReferenceLimit) × (s.limits.references < length (given_with (eyes_of s) x refs)))
+    ((f ≡ ReferenceLimit) × (model_fault s x ≡ None)
+    × (s.limits.references < length (given_with (eyes_of s) x refs)))
     ⊎ (((f ≡ Unmatched q) × (model_fault s x ≡ Some model.Unmatched))
     ⊎ ((f ≡ CommandMismatch q) × (model_fault s x ≡ Some model.CommandMismatch)))
+
+-- what comes of a request of the adapter
+abbrev pub takes_adapter_request : Entry → Session → Result Made ClientFault
+takes_adapter_request r s = takes_as r.seq (Request r.command r.arguments) s
+
+-- whether one with its number is kept
+abbrev pub is_repeated : Entry → Session → Bool
+is_repeated r s = list_any (has_seq r.seq) (asks_seen s.incoming)
+
+-- the failure with which it is answered at once, if it is
+abbrev pub failure_of : Entry → Session → Option Failure
+failure_of r s =
+    failure_at_once r.command r.arguments s.seen.announced
+    (nat_le s.limits.requests (length (asks_seen s.incoming)))
 
 pub record EachStepProjects : Type 0 where
   -- what the phase lets a client send
@@ -210,26 +233,57 @@ pub record EachStepProjects : Type 0 where
   -- a call that the phase lets it send
   pub sent : (s : Session) (c : Call)
       → is_sent_in (command_of c) s.seen.phase s.seen.ready ≡ true → Sends s c (after_send c s)
-  -- a response that comes, or why it closes the client
+  pub waits : (s : Session) (c : Call)
+      → KeepsRequests (after_send c s)
+      (s.outstanding ++ kept_unparked (request_of (s.used + 1) c) ∷ []) s.incoming
+  -- what a written `initialize` announces is what its call says
+  pub announced : (a : InitializeCall)
+      → runs_terminals (call_tree (call.Initialize a)) ≡ a.supports_run_in_terminal_request
+  -- a response that comes: what is known with it has room, or why it closes the client
   pub answered : (s : Session) (seq q : ℕ) (ok : Bool) (name : List ℕ) (why : Option (List ℕ)) (body : Option Data)
       → (made : Made) → IsWithin s → takes_as seq (Response q ok name why body) s ≡ Ok made
-      → IsTaken s (after_response q ok (command_named name) body s.seen)
+      → IsTaken s (after_response q ok (command_named name) body s.seen) (without q s.outstanding)
       (response_seen q ok name) (response_references ok name body) made
+  pub few : (s : Session) (seq q : ℕ) (ok : Bool) (name : List ℕ) (why : Option (List ℕ))
+      → (body : Option Data) (made : Made) → IsWithin s → takes_as seq (Response q ok name why body) s ≡ Ok made
+      → length (given_with (eyes_of s) (response_seen q ok name) (response_references ok name body))
+      ≤ s.limits.references
   pub refused : (s : Session) (seq q : ℕ) (ok : Bool) (name : List ℕ) (why : Option (List ℕ)) (body : Option Data)
       → (f : ClientFault) → IsWithin s → takes_as seq (Response q ok name why body) s ≡ Err f
       → IsRefused s q (response_seen q ok name) (response_references ok name body) f
-  -- an event that comes
-  pub told : (s : Session) (x : Option Signal) (body : Option Data)
-      → Hears s (small.Event (kind_if x)) [] (record s { seen = after_event x body s.seen })
-  -- a request of the adapter that comes: whether it repeats a number; kept; answered at once; and answered later
-  pub repeats : (s : Session) (q : ℕ) → contains_seq q s.incoming ≡ list_any (has_seq q) (asks_seen s.incoming)
+  -- an event that comes: none closes the client
+  pub told : (s : Session) (seq : ℕ) (name : List ℕ) (body : Option Data) (made : Made)
+      → takes_as seq (Event name body) s ≡ Ok made
+      → IsTaken s (after_event (signal_named name) body s.seen) s.outstanding
+      (small.Event (kind_if (signal_named name))) [] made
+  pub hears : (s : Session) (seq : ℕ) (name : List ℕ) (body : Option Data)
+      → (made : Made) × (takes_as seq (Event name body) s ≡ Ok made)
+  -- a message of another type changes nothing
+  pub ignores : (s : Session) (seq : ℕ) (tag : List ℕ)
+      → takes_as seq (Other tag) s ≡ Ok (made_without_writing s)
+  -- a request of the adapter that comes: it repeats the number of one that is kept
+  pub repeats : (s : Session) (r : Entry)
+      → is_repeated r s ≡ true → takes_adapter_request r s ≡ Err (RepeatedSeq r.seq)
+  -- it is kept
+  pub keeps : (s : Session) (r : Entry) → is_repeated r s ≡ false → failure_of r s ≡ None
+      → takes_adapter_request r s ≡ Ok (made_by_keeping r s)
   pub kept : (s : Session) (r : Entry)
       → IsClient (made_by_keeping r s).after
       (client_model_of s) (given_of s) s.seen.announced (asks_seen s.incoming ++ entry_ask r ∷ [])
+  -- it is answered at once, where a number is left
+  pub declines : (s : Session) (r : Entry) (failure : Failure)
+      → is_repeated r s ≡ false → failure_of r s ≡ Some failure → s.used < s.limits.seq
+      → takes_adapter_request r s ≡ Ok (made_by_declining r.seq r.command failure s)
   pub declined : (s : Session) (q : ℕ) (name : List ℕ) (failure : Failure)
       → UsesNumber s (asks_seen s.incoming) (made_by_declining q name failure s).after
+  pub exhausts : (s : Session) (r : Entry) (failure : Failure)
+      → is_repeated r s ≡ false → failure_of r s ≡ Some failure → s.limits.seq ≤ s.used
+      → takes_adapter_request r s ≡ Err SeqExhausted
+  -- one that was kept is answered
   pub terminal : (s : Session) (q : ℕ)
       → UsesNumber s (requests_without q (asks_seen s.incoming)) (after_terminal_response q s)
+  pub others : (s : Session) (q : ℕ)
+      → KeepsRequests (after_terminal_response q s) s.outstanding (without q s.incoming)
   -- of a call that is not refused no refusal holds
   pub free : (c : Call) (closed : Bool) (s : Session)
       → first_of refusals_in_order c closed s ≡ None → (f : SendFault) → holds f c closed s ≡ false

@@ -25,9 +25,12 @@ pub fn each_step_stays_within()
 }
 
 /// Each step is one of the model of two ends (`dap_ends`), which sees classes of commands in place of commands, and of the
-/// state the phase, `ready`, the numbers, the requests of both directions, the references and what was announced alone. A
-/// response closes both or neither, by the same fault, and of a call that is not refused no refusal holds. A law over both
-/// ends goes by that.
+/// state the phase, `ready`, the numbers, the requests of both directions, the references and what was announced alone;
+/// requests stay whole. A response closes both or neither, by the same fault, but that the client alone closes by
+/// `ReferenceLimit`, where the model has no fault and would know more references than there is room for. An event closes
+/// neither. A request of the adapter closes the client where one with its number is kept, or where it is to be answered at
+/// once and no number is left; else it is kept, or answered at once. Of a call that is not refused no refusal holds. A law
+/// over both ends goes by that.
 pub fn each_step_projects()
     ensures { EachStepProjects }
 {}

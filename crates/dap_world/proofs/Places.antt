@@ -169,17 +169,17 @@ took-answer (Some r) seq q ok name why body s made e =
     let same : m ≡ made = cc in
     subst (λ (x : ClientMade). Took (Response q ok name why body) seq s x) same (record { outstanding = λ P h. asks-filter P (λ k. not (k.entry.seq == q)) s.outstanding h; incoming = λ P h g. h })
 
-took : (seq : ℕ) (kind : Kind) (s : ClientSession) (made : ClientMade) → IsTold seq kind → Comes kind s → client_takes_as seq kind s ≡ Ok made → Took kind seq s made
-took seq (Request name arguments) s made t c e =
+took : (laws : Laws) (seq : ℕ) (kind : Kind) (s : ClientSession) (made : ClientMade) → IsTold seq kind → Comes kind s → client_takes_as seq kind s ≡ Ok made → Took kind seq s made
+took laws seq (Request name arguments) s made t c e =
     let m : ClientMade = made_by_keeping (request_from seq name arguments) s in
-    let ok : (let x : Result ClientMade ClientFault = Ok m in x) ≡ Ok made = sym (request-kept seq name arguments s t c) ∙ e in
+    let ok : (let x : Result ClientMade ClientFault = Ok m in x) ≡ Ok made = sym (request-kept laws seq name arguments s t c) ∙ e in
     let same : m ≡ made = cc in
     subst (λ (x : ClientMade). Took (Request name arguments) seq s x) same (record { outstanding = λ P h. h; incoming = λ P h g. asks-more P s.incoming (kept_unparked (request_from seq name arguments)) h g.0 })
-took seq (Response q ok name why body) s made t c e = took-answer (entry_with q s.outstanding) seq q ok name why body s made e
-took seq (Event name body) s made t c e =
+took laws seq (Response q ok name why body) s made t c e = took-answer (entry_with q s.outstanding) seq q ok name why body s made e
+took laws seq (Event name body) s made t c e =
     let same : made_without_writing (record s { seen = after_event (signal_named name) body s.seen }) ≡ made = cc in
     subst (λ (x : ClientMade). Took (Event name body) seq s x) same (record { outstanding = λ P h. h; incoming = λ P h g. h })
-took seq (Other tag) s made t c e =
+took laws seq (Other tag) s made t c e =
     let same : made_without_writing s ≡ made = cc in
     subst (λ (x : ClientMade). Took (Other tag) seq s x) same (record { outstanding = λ P h. h; incoming = λ P h g. h })
 
@@ -330,7 +330,7 @@ module _ {D : Type 0} (laws : Laws) (shown : D → Shown) (follows : Goes D) (li
       let told = down-first limits old m t.later t.first st in
       let comes = down-comes limits old m t.later r t.first st in
       let leaves = kind-leaves laws m.seq m.kind s made told.0 comes st.client_within t.taken in
-      let took = took m.seq m.kind s made told.0 comes t.taken in
+      let took = took laws m.seq m.kind s made told.0 comes t.taken in
       let asked = requests-first IsOwn (request_as m.seq m.kind) (requests_among t.later) (subst (λ (z : List Message). All IsOwn (requests_among z)) t.first g.own_down) in
       let answered = responses-first (IsResponse g.by s.used) (response_as m.kind) (responses_among t.later) (subst (λ (z : List Message). All (IsResponse g.by s.used) (responses_among z)) t.first g.down) in
       let same_up : old.up ≡ old.up ++ made.written = sym (ap (λ (z : List Message). old.up ++ z) leaves.silent ∙ append-nil old.up) in

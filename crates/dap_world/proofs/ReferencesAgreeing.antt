@@ -101,7 +101,7 @@ module _ {D : Type 0} (laws : Laws) (shown : D → Shown) (limits : Settings) (d
   client-fault r seq (Request name arguments) later f e t =
       let m : Message = record { seq = seq; kind = Request name arguments } in
       let clash : Ok (made_by_keeping (request_from seq name arguments) w.client) ≡ (let x : Result ClientMade ClientFault = Err f in x) =
-      sym (request-kept seq name arguments w.client (down-first limits w m later e g.stands).0 (down-comes limits w m later r e g.stands)) ∙ t in
+      sym (request-kept laws seq name arguments w.client (down-first limits w m later e g.stands).0 (down-comes limits w m later r e g.stands)) ∙ t in
       cc
   client-fault r seq (Response q ok name message body) later f e t =
       let m : Message = record { seq = seq; kind = Response q ok name message body } in
@@ -109,7 +109,7 @@ module _ {D : Type 0} (laws : Laws) (shown : D → Shown) (limits : Settings) (d
       let few : length (given_with (eyes_of w.client) (message_seen m) (references_seen (references_of_kind m.kind))) ≤ limits.references = next-few m later e in
       let room = ap (λ (l : Settings). l.references) g.stands.client_limits in
       elim (laws.client.refused w.client seq q ok name message body f g.stands.client_within t) [
-        | inl x ↦ no-more (length (given_with (eyes_of w.client) (message_seen m) (references_seen (references_of_kind m.kind)))) w.client.limits.references (subst (λ (n : ℕ). length (given_with (eyes_of w.client) (message_seen m) (references_seen (references_of_kind m.kind))) ≤ n) (sym room) few) x.1
+        | inl x ↦ no-more (length (given_with (eyes_of w.client) (message_seen m) (references_seen (references_of_kind m.kind)))) w.client.limits.references (subst (λ (n : ℕ). length (given_with (eyes_of w.client) (message_seen m) (references_seen (references_of_kind m.kind))) ≤ n) (sym room) few) x.2
         | inr x ↦ elim x [ inl y ↦ (let clash = sym full ∙ y.0 in cc) | inr y ↦ (let clash = sym full ∙ y.0 in cc) ]
       ]
   client-fault r seq (Event name body) later f e t = cc
