@@ -9,9 +9,7 @@ ghost use Rattle.dap_frame.specs.Written.{frame_of};
 use crate::adapter::Adapter;
 use crate::serving::is_ended;
 use dap_debuggee::Debuggee;
-use dap_frame::{
-    each_stream_has_one_split, frame_has_no_frame_within, written_is_read_again,
-};
+use dap_frame::{each_stream_has_one_split, frame_has_no_frame_within, written_is_read_again};
 use dap_plan::AdapterFault;
 use itoa::Buffer;
 use memchr::memchr;

@@ -314,7 +314,8 @@ impl Live {
         let HostAct::SetBreakpoints { source, lines } = &act else {
             unreachable!()
         };
-        self.set.put(source.clone()?, lines.as_slice().to_vec(alloc)?)?;
+        self.set
+            .put(source.clone()?, lines.as_slice().to_vec(alloc)?)?;
         self.ask(alloc, act)
     }
 
@@ -330,11 +331,7 @@ impl Live {
     }
 
     /// Tells nothing, and shows the variables of a holder, unless they are dropped.
-    fn see_variables(
-        &mut self,
-        holder: u64,
-        variables: List<Variable>,
-    ) -> Result<Heard, AllocError>
+    fn see_variables(&mut self, holder: u64, variables: List<Variable>) -> Result<Heard, AllocError>
         ensures heard { IfOk result (λ h. h ≡ heard_or_dropped (why_untold (now_shown self.old.state self.old.here) holder) Happening.Nothing) }
         ensures forgotten { OnOk result (self.new.learned ≡ None) }
         ensures stays { OnOk result (self.new.base ≡ self.old.base) }
@@ -411,7 +408,8 @@ impl Live {
             holder,
             name,
             value,
-        } = act else {
+        } = act
+        else {
             unreachable!()
         };
         let Some(variables) = self.children_at(*holder) else {

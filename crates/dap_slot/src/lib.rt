@@ -87,9 +87,5 @@ pub fn take_out<H: Handle>(alloc: Global, handle: &mut H) -> Option<Box<H::Held>
 {
     let none = H::from_slot(Slot::empty(alloc), false);
     let (slot, is_full) = std::mem::replace(handle, none).into_slot(alloc);
-    if is_full {
-        Some(slot.into_box())
-    } else {
-        None
-    }
+    if is_full { Some(slot.into_box()) } else { None }
 }

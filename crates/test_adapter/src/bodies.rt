@@ -99,9 +99,7 @@ impl Behind {
 
     /// What comes of a row.
     fn told(&mut self, before: &[u8], body: &[u8]) -> Option<()> {
-        self.adapter
-            .answer(self.alloc, before, &mut self.out)
-            .ok()?;
+        self.adapter.answer(self.alloc, before, &mut self.out).ok()?;
         let answered = self.heard(body);
         self.send_all().ok()?;
         write!(self.sent, "{answered:?}").ok()
@@ -134,7 +132,15 @@ fn tells(alloc: Global, limits: Limits, before: &[u8], body: &[u8], wanted: &str
 fn bodies_come_and_go(rt: HostRuntime) -> Result<(), Fail> {
     for row in &ROWS {
         let (before, body, wanted) = *row;
-        assert!(rt; tells(rt.alloc(), Limits::usual(), before.as_bytes(), body.as_bytes(), wanted));
+        assert!(rt;
+            tells(
+                rt.alloc(),
+                Limits::usual(),
+                before.as_bytes(),
+                body.as_bytes(),
+                wanted
+            )
+        );
     }
     Ok(())
 }

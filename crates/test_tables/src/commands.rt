@@ -144,11 +144,7 @@ static CALLS: [(Command, &str, CallObject); 6] = [
         r#"{"variablesReference":3,"name":"x","value":"1"}"#,
         CallObject::Holder(3),
     ),
-    (
-        Command::Pause,
-        r#"{"threadId":1}"#,
-        CallObject::Nothing,
-    ),
+    (Command::Pause, r#"{"threadId":1}"#, CallObject::Nothing),
 ];
 
 // Whether a call with these arguments names this.
