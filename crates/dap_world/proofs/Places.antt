@@ -1,18 +1,17 @@
 -- Each request in one place with its arguments: what a number was sent as stays the same wherever it is, so what is known by number and command is known of all of it.
-use Rattle.std.proofs.Common.{◌≡◌, ℕ, ◌+◌, ◌≤◌, List, [], ◌∷◌, ◌++◌, length, map, filter, Bool, true, false, Option, Some, None, Result, Ok, Err, refl, sym, ap, ◌∙◌, subst, arith, append-nil}
-use Rattle.std.specs.Prelude.{◌==◌, not, bytes_eq, option_to_list, if◌then◌else◌}
+use Rattle.std.proofs.Common.{◌≡◌, ℕ, ◌+◌, ◌≤◌, List, [], ◌∷◌, ◌++◌, length, map, filter, Bool, true, false, Option, Some, None, Result, Ok, refl, sym, ap, ◌∙◌, subst, arith, append-nil}
+use Rattle.std.specs.Prelude.{◌==◌, not, option_to_list, if◌then◌else◌}
 use Rattle.std.specs.List.{AllByRecursion}
 use Rattle.std.proofs.lemmas.Bool.Decides.{nat_tests}
 use Rattle.dap_client.specs.Sending.{request_of, next_message, after_send}
+use Rattle.dap_client.specs.Projection.{KeepsRequests}
 use Rattle.dap_client.specs.Session.{Session as ClientSession}
-use Rattle.dap_client.specs.Taking.{Made as ClientMade, made_by_keeping, made_by_answer, made_without_writing, request_from, takes_as as client_takes_as, takes_answer, answered_within}
+use Rattle.dap_client.specs.Taking.{Made as ClientMade, made_by_keeping, made_without_writing, request_from, takes_as as client_takes_as}
+use Rattle.dap_client.specs.Within.{IsWithin as ClientWithin}
 use Rattle.dap_client.specs.TerminalResponse.{terminal_response, next_terminal_response, after_terminal_response}
 use Rattle.dap_client.specs.declared.fault.ClientFault.{ClientFault}
-use Rattle.dap_client.specs.declared.fault.ClientFault.TheVariants.{CommandMismatch, ReferenceLimit}
 use Rattle.dap_client.specs.declared.terminal.Terminal.{Terminal}
 use Rattle.dap_client.specs.declared.terminal.Terminal.TheVariants.{Started, Refused}
-use Rattle.dap_client.specs.Seen.{after_event}
-use Rattle.dap_client.specs.Changes.{signal_named}
 use Rattle.dap_debuggee.specs.Shown.{Shown}
 use Rattle.dap_frame.specs.Settings.{Settings, AreInRange}
 use Rattle.dap_history.specs.History.{Asked, Answered, request_as, response_as, without_answered, has_request_seq}
@@ -28,7 +27,7 @@ use Rattle.dap_plan.specs.Laws.{CanMake, can_make}
 use Rattle.dap_plan.specs.Plan.{Made}
 use Rattle.dap_plan.specs.Polling.{polls}
 use Rattle.dap_plan.specs.Session.{Session, own_requests}
-use Rattle.dap_tables.specs.Outstanding.{Kept, kept_unparked, entry_with}
+use Rattle.dap_tables.specs.Outstanding.{Kept, kept_unparked, without}
 use Rattle.dap_tables.specs.declared.entry.Entry.{Entry}
 use Rattle.dap_world.specs.Agreement.{requests_among, responses_among, answer_to, count, AreInOnePlace}
 use Rattle.dap_world.specs.World.{World, client_said, fresh_world, Step, by_sending, by_answering, by_coming_up, by_coming_down, by_turning, by_polling, Sends, Answers, ComesUp, ComesDown, Turns, Polls, Schedule, starts, goes}
@@ -151,35 +150,28 @@ own-are used (ask ∷ ds) = (refl, own-are (used + 1) ds)
 
 -- ---- what the client takes
 
-ok-if : {A : Type 0} (b : Bool) (x : Result A ClientFault) (f : ClientFault) (y : A) → (if b then x else Err f) ≡ Ok y → x ≡ Ok y
-ok-if true x f y e = e
-ok-if false x f y e = cc
-
 -- of its tables after a message that made it write nothing
 pub record Took (kind : Kind) (seq : ℕ) (s : ClientSession) (made : ClientMade) : Type 1 where
   pub outstanding : (P : Asked → Type 0) → All P (asks s.outstanding) → All P (asks made.after.outstanding)
   pub incoming : (P : Asked → Type 0) → All P (asks s.incoming) → All P (option_to_list (request_as seq kind)) → All P (asks made.after.incoming)
 
-took-answer : (o : Option Entry) (seq q : ℕ) (ok : Bool) (name : List ℕ) (why : Option (List ℕ)) (body : Option _) (s : ClientSession) (made : ClientMade) → takes_answer o q ok name body s ≡ Ok made → Took (Response q ok name why body) seq s made
-took-answer None seq q ok name why body s made e = cc
-took-answer (Some r) seq q ok name why body s made e =
-    let inner : answered_within q ok name body s ≡ Ok made = ok-if (bytes_eq name r.command) (answered_within q ok name body s) (CommandMismatch q) made e in
-    let m : ClientMade = made_by_answer q _ s in
-    let last : (let x : Result ClientMade ClientFault = Ok m in x) ≡ Ok made = ok-if _ (Ok m) ReferenceLimit made inner in
-    let same : m ≡ made = cc in
-    subst (λ (x : ClientMade). Took (Response q ok name why body) seq s x) same (record { outstanding = λ P h. asks-filter P (λ k. not (k.entry.seq == q)) s.outstanding h; incoming = λ P h g. h })
+took-tables : (kind : Kind) (seq : ℕ) (s : ClientSession) (made : ClientMade) (outstanding : List Kept) → ((P : Asked → Type 0) → All P (asks s.outstanding) → All P (asks outstanding)) → KeepsRequests made.after outstanding s.incoming → Took kind seq s made
+took-tables kind seq s made outstanding all x = record {
+  outstanding = λ P h. subst (λ (ks : List Kept). All P (asks ks)) (sym x.outstanding_is) (all P h);
+  incoming = λ P h g. subst (λ (ks : List Kept). All P (asks ks)) (sym x.incoming_is) h;
+}
 
-took : (laws : Laws) (seq : ℕ) (kind : Kind) (s : ClientSession) (made : ClientMade) → IsTold seq kind → Comes kind s → client_takes_as seq kind s ≡ Ok made → Took kind seq s made
-took laws seq (Request name arguments) s made t c e =
+took : (laws : Laws) (seq : ℕ) (kind : Kind) (s : ClientSession) (made : ClientMade) → ClientWithin s → IsTold seq kind → Comes kind s → client_takes_as seq kind s ≡ Ok made → Took kind seq s made
+took laws seq (Request name arguments) s made w t c e =
     let m : ClientMade = made_by_keeping (request_from seq name arguments) s in
     let ok : (let x : Result ClientMade ClientFault = Ok m in x) ≡ Ok made = sym (request-kept laws seq name arguments s t c) ∙ e in
     let same : m ≡ made = cc in
     subst (λ (x : ClientMade). Took (Request name arguments) seq s x) same (record { outstanding = λ P h. h; incoming = λ P h g. asks-more P s.incoming (kept_unparked (request_from seq name arguments)) h g.0 })
-took laws seq (Response q ok name why body) s made t c e = took-answer (entry_with q s.outstanding) seq q ok name why body s made e
-took laws seq (Event name body) s made t c e =
-    let same : made_without_writing (record s { seen = after_event (signal_named name) body s.seen }) ≡ made = cc in
-    subst (λ (x : ClientMade). Took (Event name body) seq s x) same (record { outstanding = λ P h. h; incoming = λ P h g. h })
-took laws seq (Other tag) s made t c e =
+took laws seq (Response q ok name why body) s made w t c e =
+    took-tables (Response q ok name why body) seq s made (without q s.outstanding) (λ P h. asks-filter P (λ k. not (k.entry.seq == q)) s.outstanding h) (laws.client.answered s seq q ok name why body made w e).requests
+took laws seq (Event name body) s made w t c e =
+    took-tables (Event name body) seq s made s.outstanding (λ P h. h) (laws.client.told s seq name body made e).requests
+took laws seq (Other tag) s made w t c e =
     let same : made_without_writing s ≡ made = cc in
     subst (λ (x : ClientMade). Took (Other tag) seq s x) same (record { outstanding = λ P h. h; incoming = λ P h g. h })
 
@@ -330,7 +322,7 @@ module _ {D : Type 0} (laws : Laws) (shown : D → Shown) (follows : Goes D) (li
       let told = down-first limits old m t.later t.first st in
       let comes = down-comes limits old m t.later r t.first st in
       let leaves = kind-leaves laws m.seq m.kind s made told.0 comes st.client_within t.taken in
-      let took = took laws m.seq m.kind s made told.0 comes t.taken in
+      let took = took laws m.seq m.kind s made st.client_within told.0 comes t.taken in
       let asked = requests-first IsOwn (request_as m.seq m.kind) (requests_among t.later) (subst (λ (z : List Message). All IsOwn (requests_among z)) t.first g.own_down) in
       let answered = responses-first (IsResponse g.by s.used) (response_as m.kind) (responses_among t.later) (subst (λ (z : List Message). All (IsResponse g.by s.used) (responses_among z)) t.first g.down) in
       let same_up : old.up ≡ old.up ++ made.written = sym (ap (λ (z : List Message). old.up ++ z) leaves.silent ∙ append-nil old.up) in
