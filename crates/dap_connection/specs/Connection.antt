@@ -1,6 +1,6 @@
 -- What the calls of a connection do.
 -- Overview, "Base Protocol". That messages which come before a response are kept, and in which order they are given, are this profile's choices.
-use Rattle.std.specs.Prelude.{◌≡◌, ◌≢◌, ℕ, ◌+◌, ◌<◌, ◌≤◌, List, [], ◌∷◌, ◌++◌, All, length, take, true, Option, Some, None, is_some, option_to_list}
+use Rattle.std.specs.Prelude.{◌≡◌, ◌≢◌, ℕ, ◌+◌, ◌<◌, ◌≤◌, List, [], ◌∷◌, ◌++◌, All, length, take, true, Option, Some, None, is_some, option_to_list, Result, IfErr}
 use Rattle.dap_channel.specs.Channel.{IoEvent, Gave, ReadFailed}
 use Rattle.dap_channel.specs.Sent.{Sends, WritesShort, saturating_count}
 use Rattle.dap_envelope.specs.Parts.{response_parts}
@@ -163,6 +163,9 @@ pub record DoesAnswer {C : Type 0} (goes : C → IoEvent → C → Type 0) (old 
   pub unread : new.unread ≡ old.unread
   pub written : new.written ≡ saturating_count (old.written + length (answer_bytes old.client request_seq terminal))
 
+abbrev pub AnswersWhole : {C : Type 0} → (C → IoEvent → C → Type 0) → ConnectionState C → ℕ → Terminal → ConnectionState C → Type 0
+AnswersWhole goes old request_seq terminal new = DoesAnswer goes old.wire request_seq terminal new.wire
+
 -- the client has answered it, and a front of the response went out
 pub record AnswersShort {C : Type 0} (goes : C → IoEvent → C → Type 0) (old : Wire C) (request_seq : ℕ) (terminal : Terminal) (total : ℕ) (new : Wire C) : Type 0 where
   pub client : new.client ≡ after_answering request_seq old.client
@@ -234,3 +237,17 @@ pub record Asks {C : Type 0} (goes : C → IoEvent → C → Type 0) (old : Conn
 pub data AskFails {C : Type 0} (goes : C → IoEvent → C → Type 0) (old : ConnectionState C) (call : Call) (fault : ConnectionFault) (new : ConnectionState C) : Type 0 where
   not_sent : SendFails goes old call fault new → AskFails goes old call fault new
   no_response : (seq : ℕ) (sent : ConnectionState C) → DoesSend goes old.wire call seq sent.wire → sent.passed ≡ old.passed → AwaitsInVain goes sent seq fault new → AskFails goes old call fault new
+
+-- ---- what a call that was refused says, where the connection was open
+
+abbrev pub FailsToGive : {A C : Type 0} → (C → IoEvent → C → Type 0) → ConnectionState C → ConnectionState C → Result A ConnectionFault → Type 0
+FailsToGive goes old new result = old.fault ≡ None → IfErr result (λ f. NextFails goes old f new)
+
+abbrev pub FailsToSend : {A C : Type 0} → (C → IoEvent → C → Type 0) → ConnectionState C → Call → ConnectionState C → Result A ConnectionFault → Type 0
+FailsToSend goes old call new result = old.fault ≡ None → IfErr result (λ f. SendFails goes old call f new)
+
+abbrev pub FailsToAnswer : {A C : Type 0} → (C → IoEvent → C → Type 0) → ConnectionState C → ℕ → Terminal → ConnectionState C → Result A ConnectionFault → Type 0
+FailsToAnswer goes old request_seq terminal new result = old.fault ≡ None → IfErr result (λ f. AnswerFails goes old request_seq terminal f new)
+
+abbrev pub FailsToAsk : {A C : Type 0} → (C → IoEvent → C → Type 0) → ConnectionState C → Call → ConnectionState C → Result A ConnectionFault → Type 0
+FailsToAsk goes old call new result = old.fault ≡ None → IfErr result (λ f. AskFails goes old call f new)
