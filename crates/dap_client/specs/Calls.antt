@@ -4,7 +4,7 @@ use Rattle.std.specs.List.{slice_get}
 use Rattle.dap_frame.specs.Feeds.{Gathers}
 use Rattle.dap_frame.specs.Intake.{Intake}
 use Rattle.dap_frame.specs.Settings.{Settings, bounds_of}
-use Rattle.dap_history.specs.History.{Asked, In}
+use Rattle.dap_history.specs.History.{Asked, In, Out}
 use Rattle.dap_history.specs.Pieces.{Whole, FrameClosed, BodyRefused, NeedsMemory}
 use Rattle.dap_envelope.specs.Meaning.{Msg}
 use Rattle.dap_envelope.specs.ReadBack.{AllReadBack, ReadsBack}
@@ -33,19 +33,20 @@ oldest_asked qs = option_map (λ q. q.seq) (slice_get qs 0)
 
 -- ---- send
 
--- the request that is sent, and what is handed out
-abbrev pub request_of : ClientState → Call → Message
-request_of e c = next_message e.session c
-
+-- what is handed out
 abbrev pub request_bytes : ClientState → Call → List ℕ
 request_bytes e c = sent_bytes e.session c
 
-abbrev pub after_sending : Call → ClientState → ClientState
-after_sending c e = record e { session = after_send c e.session }
+abbrev pub client_after_sending : Call → ClientState → ClientState
+client_after_sending c e = record e { session = after_send c e.session }
 
--- the peer reads the message as it was meant
-abbrev pub IsReadBack : ClientState → Message → Type 0
-IsReadBack e m = ReadsBack e.session.limits.body m
+-- the request is read as it was meant
+abbrev pub IsRequestReadBack : ClientState → Call → Type 0
+IsRequestReadBack e c = ReadsBack e.session.limits.body (next_message e.session c)
+
+-- no bytes are used, and the request goes out
+abbrev pub GoesOnBySending : ClientState → Call → ClientState → Type 0
+GoesOnBySending old c new = GoesOn old new [] (Out (next_message old.session c) [] ∷ [])
 
 -- the first refusal that holds of a call
 abbrev pub refusal_of : Call → ClientState → Option SendFault
@@ -57,15 +58,20 @@ NotSent f c e = IsWhyNotSent f c (is_some e.fault) e.session
 
 -- ---- answer
 
--- the response that is sent, and what is handed out
-abbrev pub answer_of : ClientState → ℕ → Terminal → Message
-answer_of e request_seq terminal = next_terminal_response e.session request_seq terminal
-
+-- what is handed out
 abbrev pub answer_bytes : ClientState → ℕ → Terminal → List ℕ
 answer_bytes e request_seq terminal = terminal_response_bytes e.session request_seq terminal
 
-abbrev pub after_answering : ℕ → ClientState → ClientState
-after_answering request_seq e = record e { session = after_terminal_response request_seq e.session }
+abbrev pub client_after_answering : ℕ → ClientState → ClientState
+client_after_answering request_seq e = record e { session = after_terminal_response request_seq e.session }
+
+-- the response is read as it was meant
+abbrev pub IsAnswerReadBack : ClientState → ℕ → Terminal → Type 0
+IsAnswerReadBack e request_seq terminal = ReadsBack e.session.limits.body (next_terminal_response e.session request_seq terminal)
+
+-- no bytes are used, and the response goes out
+abbrev pub GoesOnByAnswering : ClientState → ℕ → Terminal → ClientState → Type 0
+GoesOnByAnswering old request_seq terminal new = GoesOn old new [] (Out (next_terminal_response old.session request_seq terminal) [] ∷ [])
 
 -- the first refusal that holds of an answer to a request of that number
 abbrev pub answer_refusal_of : ℕ → ClientState → Option AnswerFault
@@ -116,8 +122,8 @@ TakeRefused old s piece OutOfMemory = NeedsMemory old piece
 TakeRefused old s piece fault = ClosedBy old s piece fault
 
 -- or one of an open client
-abbrev pub NotTaken : ClientState → List ℕ → ClientFault → Type 0
-NotTaken e piece fault = e.fault ≡ None → TakeRefused e.intake e.session piece fault
+abbrev pub PieceNotTaken : ClientState → List ℕ → ClientFault → Type 0
+PieceNotTaken e piece fault = e.fault ≡ None → TakeRefused e.intake e.session piece fault
 
 -- ---- next
 
@@ -143,8 +149,8 @@ abbrev pub NextRefused : ClientState → List ℕ → ClientFault → ClientStat
 NextRefused old piece fault new = (TakeRefused old.intake old.session piece fault × (new.session ≡ old.session)) ⊎ LosesMessage old piece fault new
 
 -- or where the client was open
-abbrev pub NotGiven : ClientState → List ℕ → ClientState → ClientFault → Type 0
-NotGiven old piece new fault = old.fault ≡ None → NextRefused old piece fault new
+abbrev pub NextNotGiven : ClientState → List ℕ → ClientState → ClientFault → Type 0
+NextNotGiven old piece new fault = old.fault ≡ None → NextRefused old piece fault new
 
 -- of a piece with bytes fewer are left
 abbrev pub Shortens : List ℕ → List ℕ → Type 0

@@ -1,9 +1,8 @@
 -- What a client stands for: the bytes that it used, and the history of what came and what it handed out.
-use Rattle.std.specs.Prelude.{◌≡◌, ℕ, List, [], ◌∷◌, ◌++◌, None}
+use Rattle.std.specs.Prelude.{◌≡◌, ℕ, List, ◌++◌, None}
 use Rattle.dap_frame.specs.Settings.{bounds_of}
-use Rattle.dap_history.specs.History.{Entry, Out}
+use Rattle.dap_history.specs.History.{Entry}
 use Rattle.dap_history.specs.Received.{Received}
-use Rattle.dap_envelope.specs.declared.message.Message.{Message}
 use Rattle.dap_client.specs.ClientState.{ClientState}
 use Rattle.dap_client.specs.Follows.{Follows}
 use Rattle.dap_client.specs.Within.{IsWithin}
@@ -21,10 +20,6 @@ pub record StandsFor (e : ClientState) (s : List ℕ) (h : List Entry) : Type 0 
 -- a call that uses these bytes and has these entries
 abbrev pub GoesOn : ClientState → ClientState → List ℕ → List Entry → Type 0
 GoesOn old new used entries = (s : List ℕ) (h : List Entry) → StandsFor old s h → StandsFor new (s ++ used) (h ++ entries)
-
--- a call that hands out this message, and uses no bytes
-abbrev pub HandsOut : ClientState → ClientState → Message → Type 0
-HandsOut old new m = GoesOn old new [] (Out m [] ∷ [])
 
 -- this is so of each history that the client stands for
 abbrev pub OfEachHistory : ClientState → (List Entry → Type 0) → Type 0

@@ -3,14 +3,14 @@ ghost use Rattle.std.specs.Prelude.{◌≡◌, ◌≢◌, ◌+◌, ◌<◌, ◌�
 ghost use Rattle.dap_frame.specs.Closed.{StaysClosed};
 ghost use Rattle.dap_history.specs.History.{Came, Went, waiting};
 ghost use Rattle.dap_call.specs.PlainCall.{is_plain_call};
-ghost use Rattle.dap_client.specs.Calls.{refusal_of, answer_refusal_of, NotSent, NotAnswered, NotTaken, NotGiven, Takes, TakeRefused, TakesNext, request_of, request_bytes, after_sending, IsReadBack, answer_of, answer_bytes, after_answering, oldest_asked, Shortens, WhereIdle};
+ghost use Rattle.dap_client.specs.Calls.{refusal_of, answer_refusal_of, NotSent, NotAnswered, PieceNotTaken, NextNotGiven, Takes, TakeRefused, TakesNext, request_bytes, client_after_sending, IsRequestReadBack, GoesOnBySending, answer_bytes, client_after_answering, IsAnswerReadBack, GoesOnByAnswering, oldest_asked, Shortens, WhereIdle};
 ghost use Rattle.dap_client.specs.PrivateReceives.{HasReceived, IsBy};
 ghost use Rattle.dap_reader.specs.Reader.{ShortensWith};
 ghost use Rattle.dap_reader.specs.declared.fault.ReadFault.{ReadFault};
 ghost use Rattle.dap_client.specs.Seen.{phase_in, ready_in, capabilities_in, references_in};
 ghost use Rattle.dap_client.specs.Session.{fresh_session, oldest_of};
 ghost use Rattle.dap_client.specs.TerminalResponse.{is_plain_terminal};
-ghost use Rattle.dap_client.specs.StandsFor.{StandsFor, HandsOut, OfEachHistory};
+ghost use Rattle.dap_client.specs.StandsFor.{StandsFor, OfEachHistory};
 
 use crate::fault::{AnswerFault, ClientFault, SendFault};
 use crate::got::{Got, Sent};
@@ -153,9 +153,9 @@ impl Client {
         ensures sent { OnOk result (refusal_of call.now self.old ≡ None) }
         ensures seq { IfOk result (λ sent. sent.seq ≡ self.old.session.used + 1) }
         ensures bytes { IfOk result (λ sent. sent.bytes.items ≡ request_bytes self.old call.now) }
-        ensures session { OnOk result (self.new ≡ after_sending call.now self.old) }
-        ensures reads_back { OnOk result (IsReadBack self.old (request_of self.old call.now)) }
-        ensures goes_on { OnOk result (HandsOut self.old self.new (request_of self.old call.now)) }
+        ensures session { OnOk result (self.new ≡ client_after_sending call.now self.old) }
+        ensures reads_back { OnOk result (IsRequestReadBack self.old call.now) }
+        ensures goes_on { OnOk result (GoesOnBySending self.old call.now self.new) }
 
         // Why it is refused; then nothing has changed.
         ensures refused { IfErr result (λ fault. NotSent fault call.now self.old) }
@@ -184,9 +184,9 @@ impl Client {
         requires plain { IsTrue (is_plain_terminal terminal) }
         ensures answered { OnOk result (answer_refusal_of request_seq self.old ≡ None) }
         ensures bytes { IfOk result (λ b. b.items ≡ answer_bytes self.old request_seq terminal) }
-        ensures session { OnOk result (self.new ≡ after_answering request_seq self.old) }
-        ensures reads_back { OnOk result (IsReadBack self.old (answer_of self.old request_seq terminal)) }
-        ensures goes_on { OnOk result (HandsOut self.old self.new (answer_of self.old request_seq terminal)) }
+        ensures session { OnOk result (self.new ≡ client_after_answering request_seq self.old) }
+        ensures reads_back { OnOk result (IsAnswerReadBack self.old request_seq terminal) }
+        ensures goes_on { OnOk result (GoesOnByAnswering self.old request_seq terminal self.new) }
 
         // Why it is refused; then nothing has changed.
         ensures refused { IfErr result (λ fault. NotAnswered fault request_seq self.old) }
@@ -222,7 +222,7 @@ impl Client {
         ensures limits { self.new.session.limits ≡ self.old.session.limits }
 
         // Why it is refused; then the tables are as they were, and nothing is held.
-        ensures refused { IfErr result (NotTaken self.old piece.now) }
+        ensures refused { IfErr result (PieceNotTaken self.old piece.now) }
         ensures tables { OnErr result (self.new.session ≡ self.old.session) }
         ensures held { OnErr result (self.new.intake.held ≡ []) }
         ensures latches { IfErr result (λ fault. self.new.fault ≡ Some fault) }
@@ -270,7 +270,7 @@ impl Client {
         ensures limits { self.new.session.limits ≡ self.old.session.limits }
 
         // Why it is refused; then nothing is appended, and nothing is held.
-        ensures refused { IfErr result (NotGiven self.old piece.old.now self.new) }
+        ensures refused { IfErr result (NextNotGiven self.old piece.old.now self.new) }
         ensures piece { OnErr result (piece.new.now ≡ piece.old.now) }
         ensures out { OnErr result (out.new.items ≡ out.old.items) }
         ensures held { OnErr result (self.new.intake.held ≡ []) }

@@ -6,7 +6,7 @@ use Rattle.dap_channel.specs.Sent.{Sends, WritesShort, saturating_count}
 use Rattle.dap_envelope.specs.Parts.{response_parts}
 use Rattle.dap_call.specs.declared.call.Call.{Call}
 use Rattle.dap_envelope.specs.declared.message.Message.{Message}
-use Rattle.dap_client.specs.Calls.{TakesNext, NextRefused, NotSent, NotAnswered, request_bytes, after_sending, answer_bytes, after_answering}
+use Rattle.dap_client.specs.Calls.{TakesNext, NextRefused, NotSent, NotAnswered, request_bytes, client_after_sending, answer_bytes, client_after_answering}
 use Rattle.dap_client.specs.declared.fault.ClientFault.{ClientFault}
 use Rattle.dap_client.specs.declared.terminal.Terminal.{Terminal}
 use Rattle.dap_connection.specs.ConnectionState.{Wire, ConnectionState}
@@ -120,14 +120,14 @@ pub data HearFails {C : Type 0} (goes : C → IoEvent → C → Type 0) (old : W
 -- the request is sent whole, and nothing is read
 pub record DoesSend {C : Type 0} (goes : C → IoEvent → C → Type 0) (old : Wire C) (call : Call) (seq : ℕ) (new : Wire C) : Type 0 where
   pub seq_is : seq ≡ old.client.session.used + 1
-  pub client : new.client ≡ after_sending call old.client
+  pub client : new.client ≡ client_after_sending call old.client
   pub sends : Sends goes old.channel new.channel (request_bytes old.client call)
   pub unread : new.unread ≡ old.unread
   pub written : new.written ≡ saturating_count (old.written + length (request_bytes old.client call))
 
 -- the client has sent the request, and a front of it went out
 pub record SendsShort {C : Type 0} (goes : C → IoEvent → C → Type 0) (old : Wire C) (call : Call) (total : ℕ) (new : Wire C) : Type 0 where
-  pub client : new.client ≡ after_sending call old.client
+  pub client : new.client ≡ client_after_sending call old.client
   pub short : FallsShort goes old (request_bytes old.client call) total new.channel
   pub unread : new.unread ≡ old.unread
   pub written : new.written ≡ old.written
@@ -158,17 +158,17 @@ StaysOrCloses old OutOfMemory new = new.fault ≡ Some OutOfMemory
 
 -- the response to a request of the adapter is sent whole, and nothing is read
 pub record DoesAnswer {C : Type 0} (goes : C → IoEvent → C → Type 0) (old : Wire C) (request_seq : ℕ) (terminal : Terminal) (new : Wire C) : Type 0 where
-  pub client : new.client ≡ after_answering request_seq old.client
+  pub client : new.client ≡ client_after_answering request_seq old.client
   pub sends : Sends goes old.channel new.channel (answer_bytes old.client request_seq terminal)
   pub unread : new.unread ≡ old.unread
   pub written : new.written ≡ saturating_count (old.written + length (answer_bytes old.client request_seq terminal))
 
-abbrev pub AnswersWhole : {C : Type 0} → (C → IoEvent → C → Type 0) → ConnectionState C → ℕ → Terminal → ConnectionState C → Type 0
-AnswersWhole goes old request_seq terminal new = DoesAnswer goes old.wire request_seq terminal new.wire
+abbrev pub SendsAnswer : {C : Type 0} → (C → IoEvent → C → Type 0) → ConnectionState C → ℕ → Terminal → ConnectionState C → Type 0
+SendsAnswer goes old request_seq terminal new = DoesAnswer goes old.wire request_seq terminal new.wire
 
 -- the client has answered it, and a front of the response went out
 pub record AnswersShort {C : Type 0} (goes : C → IoEvent → C → Type 0) (old : Wire C) (request_seq : ℕ) (terminal : Terminal) (total : ℕ) (new : Wire C) : Type 0 where
-  pub client : new.client ≡ after_answering request_seq old.client
+  pub client : new.client ≡ client_after_answering request_seq old.client
   pub short : FallsShort goes old (answer_bytes old.client request_seq terminal) total new.channel
   pub unread : new.unread ≡ old.unread
   pub written : new.written ≡ old.written

@@ -8,7 +8,7 @@ ghost use Rattle.dap_client.specs.TerminalResponse.{is_plain_terminal};
 ghost use Rattle.dap_connection.specs.PrivateSteps.{Steps, FailsToWrite};
 ghost use Rattle.dap_connection.specs.declared.fault.ConnectionFault.{ConnectionFault};
 ghost use Rattle.dap_connection.specs.ConnectionState.{IsUnused};
-ghost use Rattle.dap_connection.specs.Connection.{DoesSend, AnswersWhole, TakesOne, ReadsMore, Hears, HearsEnd, GivesNext, AwaitsResponse, Asks};
+ghost use Rattle.dap_connection.specs.Connection.{DoesSend, SendsAnswer, TakesOne, ReadsMore, Hears, HearsEnd, GivesNext, AwaitsResponse, Asks};
 ghost use Rattle.dap_connection.specs.Connection.{FallsShort, StepFails, HearFails, AwaitsInVain, StaysOrCloses, FailsToGive, FailsToSend, FailsToAnswer, FailsToAsk};
 
 use crate::fault::ConnectionFault;
@@ -282,7 +282,7 @@ impl<C: Channel + Drop> Connection<C> {
     /// stays.
     pub fn answer(&mut self, request_seq: u64, terminal: Terminal) -> Result<(), ConnectionFault>
         requires plain { IsTrue (is_plain_terminal terminal) }
-        ensures answered { OnOk result (AnswersWhole C.goes self.old request_seq terminal self.new) }
+        ensures answered { OnOk result (SendsAnswer C.goes self.old request_seq terminal self.new) }
         ensures kept { OnOk result (self.new.passed ≡ self.old.passed) }
         ensures open { OnOk result (self.new.fault ≡ None) }
 

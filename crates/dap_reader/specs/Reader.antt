@@ -35,8 +35,8 @@ abbrev pub Gives : Intake → Intake → List ℕ → ℕ → Option Message →
 Gives old new piece used None = Gathers old new piece used
 Gives old new piece used (Some m) = GivesOne old new piece used m
 
-abbrev pub GivesNext : Reader → Reader → List ℕ → Next → Type 0
-GivesNext old new piece next = Gives old.intake new.intake piece next.used next.message
+abbrev pub GivesBy : Reader → Reader → List ℕ → Next → Type 0
+GivesBy old new piece next = Gives old.intake new.intake piece next.used next.message
 
 -- why a ready body is not read
 abbrev pub IsUnread : Intake → ReadFault → Type 0

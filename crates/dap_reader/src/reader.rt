@@ -1,13 +1,13 @@
 //! A reader of messages.
 ghost use Rattle.std.specs.Prelude.{◌≡◌, ◌≢◌, ◌<◌, ◌≤◌, [], length, max, IfOk, IfErr, OnOk, OnErr, IfSome, IfNone, Some, None};
 ghost use Rattle.dap_frame.specs.Closed.{StaysClosed};
-ghost use Rattle.dap_frame.specs.Ends.{IsEndOf};
+ghost use Rattle.dap_frame.specs.Ends.{EachEndsWith};
 ghost use Rattle.dap_frame.specs.Intake.{IsReady, IsUnderWay};
 ghost use Rattle.dap_frame.specs.Settings.{bounds_of};
 ghost use Rattle.dap_frame.specs.declared.frames.End.{End};
 ghost use Rattle.dap_envelope.specs.Meaning.{Msg};
 ghost use Rattle.dap_reader.specs.declared.fault.ReadFault.{ReadFault};
-ghost use Rattle.dap_reader.specs.Reader.{Advances, Gives, GivesNext, GoesOnBy, IsRefused, IsUntaken, IsUnread, ShortensWith, StandsFor};
+ghost use Rattle.dap_reader.specs.Reader.{Advances, Gives, GivesBy, GoesOnBy, IsRefused, IsUntaken, IsUnread, ShortensWith, StandsFor};
 
 use crate::fault::ReadFault;
 use dap_envelope::{BodyFault, Message, read_message_with};
@@ -68,7 +68,7 @@ impl MessageReader {
     /// memory is refused once a body is whole: a piece that makes no frame whole takes none. Then nothing is held, and each
     /// later call answers it again.
     pub fn next(&mut self, alloc: Global, piece: &[u8]) -> Result<Next, ReadFault>
-        ensures gives { IfOk result (GivesNext self.old self.new piece.now) }
+        ensures gives { IfOk result (GivesBy self.old self.new piece.now) }
         ensures stands { IfOk result (GoesOnBy self.old self.new piece.now) }
         ensures progress { IfOk result (λ next. 0 < length piece.now → 0 < next.used) }
         ensures within { IfOk result (λ next. next.used ≤ length piece.now) }
@@ -147,7 +147,7 @@ impl MessageReader {
     /// How the stream ends, if no more of it comes: `Clean` behind a whole frame, `Truncated` within one, `Refused` after a
     /// fault.
     pub fn finish(&self) -> End
-        ensures ends { IsEndOf self.now.intake result }
+        ensures ends { EachEndsWith self.now.intake result }
         ensures open { self.now.fault ≡ None → result ≢ End.Refused }
     {
         let _ = &self.fault;
