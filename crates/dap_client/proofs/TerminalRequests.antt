@@ -143,9 +143,6 @@ pub refused-back : FailuresAreShort → (number request_seq : ℕ) → (let m : 
 refused-back are_short number request_seq n q back =
     record { fits = are_short number request_seq run_in_terminal TerminalRefused n q named-short; reads = back n q named-short }
 
-pub within-body : (most : ℕ) (m : Message) → 1024 ≤ most → ReadsBack 1024 m → ReadsBack most m
-within-body most m large back = let fits = back.fits in record { fits = omega arith; reads = back.reads }
-
 -- ---- what an `initialize` announces
 
 initialize-announces : (a : List ℕ) (lines columns paging terminal : Bool) → runs_terminals (if_any (initialize_members (record { adapter_id = a; lines_start_at_1 = lines; columns_start_at_1 = columns; supports_variable_paging = paging; supports_run_in_terminal_request = terminal }))) ≡ terminal

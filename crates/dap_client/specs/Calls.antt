@@ -1,12 +1,13 @@
 -- What the calls of a client do, as their contracts say it.
-use Rattle.std.specs.Prelude.{◌≡◌, ◌≢◌, ◌⊎◌, ℕ, List, [], ◌∷◌, ◌++◌, take, drop, Option, Some, None, Ok, Err, is_some}
+use Rattle.std.specs.Prelude.{◌≡◌, ◌≢◌, ◌⊎◌, ◌<◌, ℕ, List, [], ◌∷◌, ◌++◌, length, take, drop, Option, Some, None, Ok, Err, is_some, option_map}
+use Rattle.std.specs.List.{slice_get}
 use Rattle.dap_frame.specs.Feeds.{Gathers}
 use Rattle.dap_frame.specs.Intake.{Intake}
 use Rattle.dap_frame.specs.Settings.{Settings, bounds_of}
-use Rattle.dap_history.specs.History.{In}
+use Rattle.dap_history.specs.History.{Asked, In, Out}
 use Rattle.dap_history.specs.Pieces.{Whole, FrameClosed, BodyRefused, NeedsMemory}
 use Rattle.dap_envelope.specs.Meaning.{Msg}
-use Rattle.dap_envelope.specs.ReadBack.{AllReadBack}
+use Rattle.dap_envelope.specs.ReadBack.{AllReadBack, ReadsBack}
 use Rattle.dap_call.specs.declared.call.Call.{Call}
 use Rattle.dap_envelope.specs.declared.message.Message.{Message}
 use Rattle.dap_client.specs.declared.fault.ClientFault.{ClientFault}
@@ -14,16 +15,38 @@ use Rattle.dap_client.specs.declared.fault.ClientFault.TheVariants.{Frame, Body,
 use Rattle.dap_client.specs.declared.fault.SendFault.{SendFault}
 use Rattle.dap_client.specs.declared.fault.AnswerFault.{AnswerFault}
 use Rattle.dap_client.specs.declared.got.Got.{Got}
-use Rattle.dap_client.specs.TerminalResponse.{first_terminal_refusal}
+use Rattle.dap_client.specs.declared.terminal.Terminal.{Terminal}
+use Rattle.dap_client.specs.TerminalResponse.{first_terminal_refusal, next_terminal_response, terminal_response_bytes, after_terminal_response}
 use Rattle.dap_client.specs.ClientState.{ClientState}
 use Rattle.dap_client.specs.Keeping.{IsWhyNotSent, IsWhyNotAnswered}
-use Rattle.dap_client.specs.Sending.{first_of, refusals_in_order}
+use Rattle.dap_client.specs.Sending.{first_of, refusals_in_order, next_message, sent_bytes, after_send}
 use Rattle.dap_client.specs.Session.{Session}
 use Rattle.dap_client.specs.StandsFor.{GoesOn}
 use Rattle.dap_client.specs.Taking.{Made, takes, entries_of, bytes_of}
 use Rattle.dap_reader.specs.Reader.{Reader}
 
+-- ---- what is looked at
+
+-- the number of the oldest of these
+abbrev pub oldest_asked : List Asked → Option ℕ
+oldest_asked qs = option_map (λ q. q.seq) (slice_get qs 0)
+
 -- ---- send
+
+-- what is handed out
+abbrev pub request_bytes : ClientState → Call → List ℕ
+request_bytes e c = sent_bytes e.session c
+
+abbrev pub client_after_sending : Call → ClientState → ClientState
+client_after_sending c e = record e { session = after_send c e.session }
+
+-- the request is read as it was meant
+abbrev pub IsRequestReadBack : ClientState → Call → Type 0
+IsRequestReadBack e c = ReadsBack e.session.limits.body (next_message e.session c)
+
+-- no bytes are used, and the request goes out
+abbrev pub GoesOnBySending : ClientState → Call → ClientState → Type 0
+GoesOnBySending old c new = GoesOn old new [] (Out (next_message old.session c) [] ∷ [])
 
 -- the first refusal that holds of a call
 abbrev pub refusal_of : Call → ClientState → Option SendFault
@@ -34,6 +57,21 @@ abbrev pub NotSent : SendFault → Call → ClientState → Type 0
 NotSent f c e = IsWhyNotSent f c (is_some e.fault) e.session
 
 -- ---- answer
+
+-- what is handed out
+abbrev pub answer_bytes : ClientState → ℕ → Terminal → List ℕ
+answer_bytes e request_seq terminal = terminal_response_bytes e.session request_seq terminal
+
+abbrev pub client_after_answering : ℕ → ClientState → ClientState
+client_after_answering request_seq e = record e { session = after_terminal_response request_seq e.session }
+
+-- the response is read as it was meant
+abbrev pub IsAnswerReadBack : ClientState → ℕ → Terminal → Type 0
+IsAnswerReadBack e request_seq terminal = ReadsBack e.session.limits.body (next_terminal_response e.session request_seq terminal)
+
+-- no bytes are used, and the response goes out
+abbrev pub GoesOnByAnswering : ClientState → ℕ → Terminal → ClientState → Type 0
+GoesOnByAnswering old request_seq terminal new = GoesOn old new [] (Out (next_terminal_response old.session request_seq terminal) [] ∷ [])
 
 -- the first refusal that holds of an answer to a request of that number
 abbrev pub answer_refusal_of : ℕ → ClientState → Option AnswerFault
@@ -83,6 +121,10 @@ TakeRefused old s piece (Body cause offset) = BodyRefused old piece cause offset
 TakeRefused old s piece OutOfMemory = NeedsMemory old piece
 TakeRefused old s piece fault = ClosedBy old s piece fault
 
+-- or one of an open client
+abbrev pub PieceNotTaken : ClientState → List ℕ → ClientFault → Type 0
+PieceNotTaken e piece fault = e.fault ≡ None → TakeRefused e.intake e.session piece fault
+
 -- ---- next
 
 -- what `take` does, with the bytes used cut off and what is to be written appended
@@ -105,6 +147,18 @@ pub record LosesMessage (old : ClientState) (piece : List ℕ) (fault : ClientFa
 -- `take` was refused, and the tables are as they were, or its bytes were
 abbrev pub NextRefused : ClientState → List ℕ → ClientFault → ClientState → Type 0
 NextRefused old piece fault new = (TakeRefused old.intake old.session piece fault × (new.session ≡ old.session)) ⊎ LosesMessage old piece fault new
+
+-- or where the client was open
+abbrev pub NextNotGiven : ClientState → List ℕ → ClientState → ClientFault → Type 0
+NextNotGiven old piece new fault = old.fault ≡ None → NextRefused old piece fault new
+
+-- of a piece with bytes fewer are left
+abbrev pub Shortens : List ℕ → List ℕ → Type 0
+Shortens before after = 0 < length before → length after < length before
+
+-- this is so of an open client and a piece without bytes
+abbrev pub WhereIdle : ClientState → List ℕ → Type 0 → Type 0
+WhereIdle e piece says = e.fault ≡ None → piece ≡ [] → says
 
 -- ---- what holds between calls
 

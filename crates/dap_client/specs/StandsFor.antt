@@ -20,3 +20,7 @@ pub record StandsFor (e : ClientState) (s : List ℕ) (h : List Entry) : Type 0 
 -- a call that uses these bytes and has these entries
 abbrev pub GoesOn : ClientState → ClientState → List ℕ → List Entry → Type 0
 GoesOn old new used entries = (s : List ℕ) (h : List Entry) → StandsFor old s h → StandsFor new (s ++ used) (h ++ entries)
+
+-- this is so of each history that the client stands for
+abbrev pub OfEachHistory : ClientState → (List Entry → Type 0) → Type 0
+OfEachHistory e says = (s : List ℕ) (h : List Entry) → StandsFor e s h → says h

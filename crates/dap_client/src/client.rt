@@ -1,17 +1,16 @@
 //! A client, call by call.
-ghost use Rattle.std.specs.Prelude.{◌≡◌, ◌≢◌, ℕ, ◌+◌, ◌<◌, ◌≤◌, List, [], ◌∷◌, ◌++◌, length, max, IfOk, IfErr, OnOk, OnErr, IfSome, IsTrue, None, Some, Ok, Err, option_map};
-ghost use Rattle.std.specs.List.{slice_get};
-ghost use Rattle.dap_history.specs.History.{Entry, Out, Came, Went, waiting};
+ghost use Rattle.std.specs.Prelude.{◌≡◌, ◌≢◌, ◌+◌, ◌<◌, ◌≤◌, [], ◌++◌, length, max, IfOk, IfErr, OnOk, OnErr, IfSome, IsTrue, None, Some, Ok, Err};
+ghost use Rattle.dap_frame.specs.Closed.{StaysClosed};
+ghost use Rattle.dap_history.specs.History.{Came, Went, waiting};
 ghost use Rattle.dap_call.specs.PlainCall.{is_plain_call};
-ghost use Rattle.dap_envelope.specs.ReadBack.{ReadsBack};
-ghost use Rattle.dap_client.specs.Calls.{refusal_of, answer_refusal_of, NotSent, NotAnswered, Takes, TakeRefused, TakesNext, NextRefused};
+ghost use Rattle.dap_client.specs.Calls.{refusal_of, answer_refusal_of, NotSent, NotAnswered, PieceNotTaken, NextNotGiven, Takes, TakeRefused, TakesNext, request_bytes, client_after_sending, IsRequestReadBack, GoesOnBySending, answer_bytes, client_after_answering, IsAnswerReadBack, GoesOnByAnswering, oldest_asked, Shortens, WhereIdle};
 ghost use Rattle.dap_client.specs.PrivateReceives.{HasReceived, IsBy};
+ghost use Rattle.dap_reader.specs.Reader.{ShortensWith};
 ghost use Rattle.dap_reader.specs.declared.fault.ReadFault.{ReadFault};
 ghost use Rattle.dap_client.specs.Seen.{phase_in, ready_in, capabilities_in, references_in};
-ghost use Rattle.dap_client.specs.Sending.{next_message, sent_bytes, after_send};
 ghost use Rattle.dap_client.specs.Session.{fresh_session, oldest_of};
-ghost use Rattle.dap_client.specs.TerminalResponse.{is_plain_terminal, next_terminal_response, terminal_response_bytes, after_terminal_response};
-ghost use Rattle.dap_client.specs.StandsFor.{StandsFor, GoesOn};
+ghost use Rattle.dap_client.specs.TerminalResponse.{is_plain_terminal};
+ghost use Rattle.dap_client.specs.StandsFor.{StandsFor, OfEachHistory};
 
 use crate::fault::{AnswerFault, ClientFault, SendFault};
 use crate::got::{Got, Sent};
@@ -74,7 +73,7 @@ impl Client {
     pub fn outstanding(&self) -> usize
         ensures count { result ≡ length self.now.session.outstanding }
         ensures bound { result ≤ self.now.session.limits.requests }
-        ensures waiting { (s : List ℕ) (h : List Entry) → StandsFor self.now s h → result ≡ length (waiting Went h) }
+        ensures waiting { OfEachHistory self.now (λ h. result ≡ length (waiting Went h)) }
     {
         self.session.outstanding()
     }
@@ -83,7 +82,7 @@ impl Client {
     pub fn incoming(&self) -> usize
         ensures count { result ≡ length self.now.session.incoming }
         ensures bound { result ≤ self.now.session.limits.requests }
-        ensures waiting { (s : List ℕ) (h : List Entry) → StandsFor self.now s h → result ≡ length (waiting Came h) }
+        ensures waiting { OfEachHistory self.now (λ h. result ≡ length (waiting Came h)) }
     {
         self.session.incoming()
     }
@@ -91,7 +90,7 @@ impl Client {
     /// The number of the oldest one, if one is kept; `answer` takes any of them.
     pub fn oldest_incoming(&self) -> Option<u64>
         ensures oldest { result ≡ oldest_of self.now.session.incoming }
-        ensures waiting { (s : List ℕ) (h : List Entry) → StandsFor self.now s h → result ≡ option_map (λ q. q.seq) (slice_get (waiting Came h) 0) }
+        ensures waiting { OfEachHistory self.now (λ h. result ≡ oldest_asked (waiting Came h)) }
     {
         self.session.oldest_incoming()
     }
@@ -100,7 +99,7 @@ impl Client {
     pub fn references(&self) -> usize
         ensures count { result ≡ length self.now.session.seen.known }
         ensures bound { result ≤ self.now.session.limits.references }
-        ensures given { (s : List ℕ) (h : List Entry) → StandsFor self.now s h → result ≡ length (references_in h) }
+        ensures given { OfEachHistory self.now (λ h. result ≡ length (references_in h)) }
     {
         self.session.references()
     }
@@ -109,7 +108,7 @@ impl Client {
     /// those that such events named.
     pub fn capabilities(&self) -> Capabilities
         ensures value { result ≡ self.now.session.seen.capabilities }
-        ensures seen { (s : List ℕ) (h : List Entry) → StandsFor self.now s h → result ≡ capabilities_in h }
+        ensures seen { OfEachHistory self.now (λ h. result ≡ capabilities_in h) }
     {
         self.session.capabilities()
     }
@@ -117,7 +116,7 @@ impl Client {
     /// Whether the event `initialized` came.
     pub fn ready(&self) -> bool
         ensures value { result ≡ self.now.session.seen.ready }
-        ensures seen { (s : List ℕ) (h : List Entry) → StandsFor self.now s h → result ≡ ready_in h }
+        ensures seen { OfEachHistory self.now (λ h. result ≡ ready_in h) }
     {
         self.session.ready()
     }
@@ -125,7 +124,7 @@ impl Client {
     /// How far the session is. A fault leaves the phase as it was.
     pub fn phase(&self) -> Phase
         ensures value { result ≡ self.now.session.seen.phase }
-        ensures seen { (s : List ℕ) (h : List Entry) → StandsFor self.now s h → result ≡ phase_in h }
+        ensures seen { OfEachHistory self.now (λ h. result ≡ phase_in h) }
     {
         self.session.phase()
     }
@@ -153,10 +152,10 @@ impl Client {
         requires plain { IsTrue (is_plain_call call.now) }
         ensures sent { OnOk result (refusal_of call.now self.old ≡ None) }
         ensures seq { IfOk result (λ sent. sent.seq ≡ self.old.session.used + 1) }
-        ensures bytes { IfOk result (λ sent. sent.bytes.items ≡ sent_bytes self.old.session call.now) }
-        ensures session { OnOk result (self.new ≡ record self.old { session = after_send call.now self.old.session }) }
-        ensures reads_back { OnOk result (ReadsBack self.old.session.limits.body (next_message self.old.session call.now)) }
-        ensures goes_on { OnOk result (GoesOn self.old self.new [] (Out (next_message self.old.session call.now) [] ∷ [])) }
+        ensures bytes { IfOk result (λ sent. sent.bytes.items ≡ request_bytes self.old call.now) }
+        ensures session { OnOk result (self.new ≡ client_after_sending call.now self.old) }
+        ensures reads_back { OnOk result (IsRequestReadBack self.old call.now) }
+        ensures goes_on { OnOk result (GoesOnBySending self.old call.now self.new) }
 
         // Why it is refused; then nothing has changed.
         ensures refused { IfErr result (λ fault. NotSent fault call.now self.old) }
@@ -184,10 +183,10 @@ impl Client {
     ) -> Result<Vec<u8>, AnswerFault>
         requires plain { IsTrue (is_plain_terminal terminal) }
         ensures answered { OnOk result (answer_refusal_of request_seq self.old ≡ None) }
-        ensures bytes { IfOk result (λ bytes. bytes.items ≡ terminal_response_bytes self.old.session request_seq terminal) }
-        ensures session { OnOk result (self.new ≡ record self.old { session = after_terminal_response request_seq self.old.session }) }
-        ensures reads_back { OnOk result (ReadsBack self.old.session.limits.body (next_terminal_response self.old.session request_seq terminal)) }
-        ensures goes_on { OnOk result (GoesOn self.old self.new [] (Out (next_terminal_response self.old.session request_seq terminal) [] ∷ [])) }
+        ensures bytes { IfOk result (λ b. b.items ≡ answer_bytes self.old request_seq terminal) }
+        ensures session { OnOk result (self.new ≡ client_after_answering request_seq self.old) }
+        ensures reads_back { OnOk result (IsAnswerReadBack self.old request_seq terminal) }
+        ensures goes_on { OnOk result (GoesOnByAnswering self.old request_seq terminal self.new) }
 
         // Why it is refused; then nothing has changed.
         ensures refused { IfErr result (λ fault. NotAnswered fault request_seq self.old) }
@@ -223,11 +222,11 @@ impl Client {
         ensures limits { self.new.session.limits ≡ self.old.session.limits }
 
         // Why it is refused; then the tables are as they were, and nothing is held.
-        ensures refused { IfErr result (λ fault. self.old.fault ≡ None → TakeRefused self.old.intake self.old.session piece.now fault) }
+        ensures refused { IfErr result (PieceNotTaken self.old piece.now) }
         ensures tables { OnErr result (self.new.session ≡ self.old.session) }
         ensures held { OnErr result (self.new.intake.held ≡ []) }
         ensures latches { IfErr result (λ fault. self.new.fault ≡ Some fault) }
-        ensures latched { IfSome self.old.fault (λ fault. (result ≡ Err fault) × (self.new ≡ self.old)) }
+        ensures latched { StaysClosed self.old.fault result self.old self.new }
     {
         if let Some(fault) = self.fault {
             return Err(fault);
@@ -260,19 +259,23 @@ impl Client {
         out: &mut Vec<u8>,
     ) -> Result<Option<Message>, ClientFault>
         ensures gives { IfOk result (λ message. 0 < length piece.old.now → TakesNext self.old piece.old.now out.old.items message self.new piece.new.now out.new.items) }
-        ensures none { self.old.fault ≡ None → piece.old.now ≡ [] → (result ≡ Ok None) × (self.new ≡ self.old) × (piece.new ≡ piece.old) × (out.new ≡ out.old) }
-        ensures progress { OnOk result (0 < length piece.old.now → length piece.new.now < length piece.old.now) }
-        ensures some { IfOk result (λ message. IfSome message (λ m. length piece.new.now < length piece.old.now)) }
+        ensures progress { OnOk result (Shortens piece.old.now piece.new.now) }
+        ensures some { IfOk result (ShortensWith piece.old.now piece.new.now) }
+        ensures none { WhereIdle self.old piece.old.now (result ≡ Ok None) }
+        ensures idle { WhereIdle self.old piece.old.now (self.new ≡ self.old) }
+        ensures idle_piece { WhereIdle self.old piece.old.now (piece.new ≡ piece.old) }
+        ensures idle_out { WhereIdle self.old piece.old.now (out.new ≡ out.old) }
         ensures all { IfOk result (λ message. message ≡ None → piece.new.now ≡ []) }
         ensures open { OnOk result (self.new.fault ≡ None) }
         ensures limits { self.new.session.limits ≡ self.old.session.limits }
 
         // Why it is refused; then nothing is appended, and nothing is held.
-        ensures refused { IfErr result (λ fault. self.old.fault ≡ None → NextRefused self.old piece.old.now fault self.new) }
-        ensures kept { OnErr result ((piece.new.now ≡ piece.old.now) × (out.new.items ≡ out.old.items)) }
+        ensures refused { IfErr result (NextNotGiven self.old piece.old.now self.new) }
+        ensures piece { OnErr result (piece.new.now ≡ piece.old.now) }
+        ensures out { OnErr result (out.new.items ≡ out.old.items) }
         ensures held { OnErr result (self.new.intake.held ≡ []) }
         ensures latches { IfErr result (λ fault. self.new.fault ≡ Some fault) }
-        ensures latched { IfSome self.old.fault (λ fault. (result ≡ Err fault) × (self.new ≡ self.old)) }
+        ensures latched { StaysClosed self.old.fault result self.old self.new }
     {
         if let Some(fault) = self.fault {
             return Err(fault);

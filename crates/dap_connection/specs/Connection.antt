@@ -1,15 +1,13 @@
 -- What the calls of a connection do.
 -- Overview, "Base Protocol". That messages which come before a response are kept, and in which order they are given, are this profile's choices.
-use Rattle.std.specs.Prelude.{◌≡◌, ◌≢◌, ℕ, ◌+◌, ◌<◌, ◌≤◌, List, [], ◌∷◌, ◌++◌, All, length, take, true, Option, Some, None, is_some, option_to_list}
+use Rattle.std.specs.Prelude.{◌≡◌, ◌≢◌, ℕ, ◌+◌, ◌<◌, ◌≤◌, List, [], ◌∷◌, ◌++◌, All, length, take, true, Option, Some, None, is_some, option_to_list, Result, IfErr}
 use Rattle.dap_channel.specs.Channel.{IoEvent, Gave, ReadFailed}
 use Rattle.dap_channel.specs.Sent.{Sends, WritesShort, saturating_count}
 use Rattle.dap_envelope.specs.Parts.{response_parts}
 use Rattle.dap_call.specs.declared.call.Call.{Call}
 use Rattle.dap_envelope.specs.declared.message.Message.{Message}
-use Rattle.dap_client.specs.Calls.{TakesNext, NextRefused, NotSent, NotAnswered}
+use Rattle.dap_client.specs.Calls.{TakesNext, NextRefused, NotSent, NotAnswered, request_bytes, client_after_sending, answer_bytes, client_after_answering}
 use Rattle.dap_client.specs.declared.fault.ClientFault.{ClientFault}
-use Rattle.dap_client.specs.Sending.{sent_bytes, after_send}
-use Rattle.dap_client.specs.TerminalResponse.{terminal_response_bytes, after_terminal_response}
 use Rattle.dap_client.specs.declared.terminal.Terminal.{Terminal}
 use Rattle.dap_connection.specs.ConnectionState.{Wire, ConnectionState}
 use Rattle.dap_connection.specs.declared.fault.ConnectionFault.{ConnectionFault}
@@ -122,15 +120,15 @@ pub data HearFails {C : Type 0} (goes : C → IoEvent → C → Type 0) (old : W
 -- the request is sent whole, and nothing is read
 pub record DoesSend {C : Type 0} (goes : C → IoEvent → C → Type 0) (old : Wire C) (call : Call) (seq : ℕ) (new : Wire C) : Type 0 where
   pub seq_is : seq ≡ old.client.session.used + 1
-  pub client : new.client ≡ record old.client { session = after_send call old.client.session }
-  pub sends : Sends goes old.channel new.channel (sent_bytes old.client.session call)
+  pub client : new.client ≡ client_after_sending call old.client
+  pub sends : Sends goes old.channel new.channel (request_bytes old.client call)
   pub unread : new.unread ≡ old.unread
-  pub written : new.written ≡ saturating_count (old.written + length (sent_bytes old.client.session call))
+  pub written : new.written ≡ saturating_count (old.written + length (request_bytes old.client call))
 
 -- the client has sent the request, and a front of it went out
 pub record SendsShort {C : Type 0} (goes : C → IoEvent → C → Type 0) (old : Wire C) (call : Call) (total : ℕ) (new : Wire C) : Type 0 where
-  pub client : new.client ≡ record old.client { session = after_send call old.client.session }
-  pub short : FallsShort goes old (sent_bytes old.client.session call) total new.channel
+  pub client : new.client ≡ client_after_sending call old.client
+  pub short : FallsShort goes old (request_bytes old.client call) total new.channel
   pub unread : new.unread ≡ old.unread
   pub written : new.written ≡ old.written
 
@@ -160,15 +158,18 @@ StaysOrCloses old OutOfMemory new = new.fault ≡ Some OutOfMemory
 
 -- the response to a request of the adapter is sent whole, and nothing is read
 pub record DoesAnswer {C : Type 0} (goes : C → IoEvent → C → Type 0) (old : Wire C) (request_seq : ℕ) (terminal : Terminal) (new : Wire C) : Type 0 where
-  pub client : new.client ≡ record old.client { session = after_terminal_response request_seq old.client.session }
-  pub sends : Sends goes old.channel new.channel (terminal_response_bytes old.client.session request_seq terminal)
+  pub client : new.client ≡ client_after_answering request_seq old.client
+  pub sends : Sends goes old.channel new.channel (answer_bytes old.client request_seq terminal)
   pub unread : new.unread ≡ old.unread
-  pub written : new.written ≡ saturating_count (old.written + length (terminal_response_bytes old.client.session request_seq terminal))
+  pub written : new.written ≡ saturating_count (old.written + length (answer_bytes old.client request_seq terminal))
+
+abbrev pub SendsAnswer : {C : Type 0} → (C → IoEvent → C → Type 0) → ConnectionState C → ℕ → Terminal → ConnectionState C → Type 0
+SendsAnswer goes old request_seq terminal new = DoesAnswer goes old.wire request_seq terminal new.wire
 
 -- the client has answered it, and a front of the response went out
 pub record AnswersShort {C : Type 0} (goes : C → IoEvent → C → Type 0) (old : Wire C) (request_seq : ℕ) (terminal : Terminal) (total : ℕ) (new : Wire C) : Type 0 where
-  pub client : new.client ≡ record old.client { session = after_terminal_response request_seq old.client.session }
-  pub short : FallsShort goes old (terminal_response_bytes old.client.session request_seq terminal) total new.channel
+  pub client : new.client ≡ client_after_answering request_seq old.client
+  pub short : FallsShort goes old (answer_bytes old.client request_seq terminal) total new.channel
   pub unread : new.unread ≡ old.unread
   pub written : new.written ≡ old.written
 
@@ -236,3 +237,17 @@ pub record Asks {C : Type 0} (goes : C → IoEvent → C → Type 0) (old : Conn
 pub data AskFails {C : Type 0} (goes : C → IoEvent → C → Type 0) (old : ConnectionState C) (call : Call) (fault : ConnectionFault) (new : ConnectionState C) : Type 0 where
   not_sent : SendFails goes old call fault new → AskFails goes old call fault new
   no_response : (seq : ℕ) (sent : ConnectionState C) → DoesSend goes old.wire call seq sent.wire → sent.passed ≡ old.passed → AwaitsInVain goes sent seq fault new → AskFails goes old call fault new
+
+-- ---- what a call that was refused says, where the connection was open
+
+abbrev pub FailsToGive : {A C : Type 0} → (C → IoEvent → C → Type 0) → ConnectionState C → ConnectionState C → Result A ConnectionFault → Type 0
+FailsToGive goes old new result = old.fault ≡ None → IfErr result (λ f. NextFails goes old f new)
+
+abbrev pub FailsToSend : {A C : Type 0} → (C → IoEvent → C → Type 0) → ConnectionState C → Call → ConnectionState C → Result A ConnectionFault → Type 0
+FailsToSend goes old call new result = old.fault ≡ None → IfErr result (λ f. SendFails goes old call f new)
+
+abbrev pub FailsToAnswer : {A C : Type 0} → (C → IoEvent → C → Type 0) → ConnectionState C → ℕ → Terminal → ConnectionState C → Result A ConnectionFault → Type 0
+FailsToAnswer goes old request_seq terminal new result = old.fault ≡ None → IfErr result (λ f. AnswerFails goes old request_seq terminal f new)
+
+abbrev pub FailsToAsk : {A C : Type 0} → (C → IoEvent → C → Type 0) → ConnectionState C → Call → ConnectionState C → Result A ConnectionFault → Type 0
+FailsToAsk goes old call new result = old.fault ≡ None → IfErr result (λ f. AskFails goes old call f new)

@@ -1,5 +1,5 @@
 -- A connection, as contracts see it.
-use Rattle.std.specs.Prelude.{◌≡◌, ◌≤◌, ℕ, List, length, Option, None}
+use Rattle.std.specs.Prelude.{◌≡◌, ◌≤◌, ℕ, List, [], length, Option, None}
 use Rattle.dap_envelope.specs.declared.message.Message.{Message}
 use Rattle.dap_client.specs.ClientState.{ClientState}
 use Rattle.dap_connection.specs.declared.fault.ConnectionFault.{ConnectionFault}
@@ -16,6 +16,10 @@ pub record ConnectionState (C : Type 0) : Type 0 where
   pub wire : Wire C
   pub passed : List Message
   pub fault : Option ConnectionFault
+
+-- nothing was read, written or kept, and it is open
+abbrev pub IsUnused : {C : Type 0} → ConnectionState C → Type 0
+IsUnused c = (c.wire.unread ≡ []) × (c.wire.written ≡ 0) × (c.passed ≡ []) × (c.fault ≡ None)
 
 -- what holds of every connection: one that is open has a client that is
 pub record IsConnection (read : List ℕ) (at : ℕ) (client : ClientState) (fault : Option ConnectionFault) : Type 0 where

@@ -1,13 +1,15 @@
 //! A connection, call by call.
 ghost use Rattle.std.specs.Prelude.{◌≡◌, ◌≢◌, ℕ, ◌+◌, ◌<◌, ◌≤◌, List, [], ◌∷◌, ◌++◌, length, IfOk, IfErr, OnOk, OnErr, IfSome, IfNone, IsTrue, Some, None, Ok, Err, true, false};
+ghost use Rattle.dap_frame.specs.Closed.{StaysClosed};
 ghost use Rattle.dap_channel.specs.Sent.{Sends, saturating_count};
 ghost use Rattle.dap_client.specs.Session.{fresh_session};
 ghost use Rattle.dap_call.specs.PlainCall.{is_plain_call};
 ghost use Rattle.dap_client.specs.TerminalResponse.{is_plain_terminal};
 ghost use Rattle.dap_connection.specs.PrivateSteps.{Steps, FailsToWrite};
 ghost use Rattle.dap_connection.specs.declared.fault.ConnectionFault.{ConnectionFault};
-ghost use Rattle.dap_connection.specs.Connection.{DoesSend, DoesAnswer, TakesOne, ReadsMore, Hears, HearsEnd, GivesNext, AwaitsResponse, Asks};
-ghost use Rattle.dap_connection.specs.Connection.{FallsShort, StepFails, HearFails, NextFails, SendFails, AnswerFails, AwaitsInVain, AskFails, StaysOrCloses};
+ghost use Rattle.dap_connection.specs.ConnectionState.{IsUnused};
+ghost use Rattle.dap_connection.specs.Connection.{DoesSend, SendsAnswer, TakesOne, ReadsMore, Hears, HearsEnd, GivesNext, AwaitsResponse, Asks};
+ghost use Rattle.dap_connection.specs.Connection.{FallsShort, StepFails, HearFails, AwaitsInVain, StaysOrCloses, FailsToGive, FailsToSend, FailsToAnswer, FailsToAsk};
 
 use crate::fault::ConnectionFault;
 use dap_call::Call;
@@ -69,7 +71,7 @@ impl<C: Channel + Drop> Connection<C> {
     pub fn open(alloc: Global, channel: C, limits: Limits) -> Result<Connection<C>, AllocError>
         ensures session { IfOk result (λ c. c.wire.client.session ≡ fresh_session limits) }
         ensures channel { IfOk result (λ c. c.wire.channel ≡ channel) }
-        ensures none { IfOk result (λ c. (c.wire.unread ≡ []) × (c.wire.written ≡ 0) × (c.passed ≡ []) × (c.fault ≡ None)) }
+        ensures none { IfOk result IsUnused }
     {
         let client = Client::open(alloc, limits)?;
         Ok(Connection {
@@ -227,13 +229,13 @@ impl<C: Channel + Drop> Connection<C> {
     /// `Client` where what came closes the client; `Read` and `Write` where the channel failed; `OutOfMemory`; `TooManyReads`
     /// after 18446744073709551615 steps. Each stays.
     pub fn next(&mut self) -> Result<Option<Message>, ConnectionFault>
-        ensures gives { IfOk result (λ message. GivesNext C.goes self.old self.old.passed message self.new) }
+        ensures gives { IfOk result (λ m. GivesNext C.goes self.old self.old.passed m self.new) }
         ensures open { OnOk result (self.new.fault ≡ None) }
 
         // Why none comes: what was read and written, and which client met it. Then it is closed.
-        ensures fails { self.old.fault ≡ None → IfErr result (λ fault. NextFails C.goes self.old fault self.new) }
+        ensures fails { FailsToGive C.goes self.old self.new result }
         ensures latches { IfErr result (λ fault. self.new.fault ≡ Some fault) }
-        ensures latched { IfSome self.old.fault (λ fault. (result ≡ Err fault) × (self.new ≡ self.old)) }
+        ensures latched { StaysClosed self.old.fault result self.old self.new }
     {
         if let Some(fault) = self.fault {
             return Err(fault);
@@ -251,14 +253,14 @@ impl<C: Channel + Drop> Connection<C> {
     /// which stays.
     pub fn send(&mut self, call: &Call) -> Result<u64, ConnectionFault>
         requires plain { IsTrue (is_plain_call call.now) }
-        ensures sent { IfOk result (λ seq. DoesSend C.goes self.old.wire call.now seq self.new.wire) }
+        ensures sent { IfOk result (λ n. DoesSend C.goes self.old.wire call.now n self.new.wire) }
         ensures kept { OnOk result (self.new.passed ≡ self.old.passed) }
         ensures open { OnOk result (self.new.fault ≡ None) }
 
         // Why it is not sent, and what of it was written.
-        ensures fails { self.old.fault ≡ None → IfErr result (λ fault. SendFails C.goes self.old call.now fault self.new) }
+        ensures fails { FailsToSend C.goes self.old call.now self.new result }
         ensures closes { IfErr result (λ fault. StaysOrCloses self.old fault self.new) }
-        ensures latched { IfSome self.old.fault (λ fault. (result ≡ Err fault) × (self.new ≡ self.old)) }
+        ensures latched { StaysClosed self.old.fault result self.old self.new }
     {
         if let Some(fault) = self.fault {
             return Err(fault);
@@ -280,14 +282,14 @@ impl<C: Channel + Drop> Connection<C> {
     /// stays.
     pub fn answer(&mut self, request_seq: u64, terminal: Terminal) -> Result<(), ConnectionFault>
         requires plain { IsTrue (is_plain_terminal terminal) }
-        ensures answered { OnOk result (DoesAnswer C.goes self.old.wire request_seq terminal self.new.wire) }
+        ensures answered { OnOk result (SendsAnswer C.goes self.old request_seq terminal self.new) }
         ensures kept { OnOk result (self.new.passed ≡ self.old.passed) }
         ensures open { OnOk result (self.new.fault ≡ None) }
 
         // Why it is not answered, and what of the response was written.
-        ensures fails { self.old.fault ≡ None → IfErr result (λ fault. AnswerFails C.goes self.old request_seq terminal fault self.new) }
+        ensures fails { FailsToAnswer C.goes self.old request_seq terminal self.new result }
         ensures closes { IfErr result (λ fault. StaysOrCloses self.old fault self.new) }
-        ensures latched { IfSome self.old.fault (λ fault. (result ≡ Err fault) × (self.new ≡ self.old)) }
+        ensures latched { StaysClosed self.old.fault result self.old self.new }
     {
         if let Some(fault) = self.fault {
             return Err(fault);
@@ -337,9 +339,9 @@ impl<C: Channel + Drop> Connection<C> {
         ensures open { OnOk result (self.new.fault ≡ None) }
 
         // Why the response does not come, what was read and written, and which messages are kept.
-        ensures fails { self.old.fault ≡ None → IfErr result (λ fault. AskFails C.goes self.old call.now fault self.new) }
+        ensures fails { FailsToAsk C.goes self.old call.now self.new result }
         ensures closes { IfErr result (λ fault. StaysOrCloses self.old fault self.new) }
-        ensures latched { IfSome self.old.fault (λ fault. (result ≡ Err fault) × (self.new ≡ self.old)) }
+        ensures latched { StaysClosed self.old.fault result self.old self.new }
     {
         let seq = match self.send(call) {
             Ok(seq) => seq,

@@ -38,10 +38,10 @@ use Rattle.dap_world.specs.Agreement.{AllArrive, EachScheduleAgrees}
 use Rattle.dap_world.specs.World.{World, Said, said_by, client_said, adapter_said, ComesUp, ComesDown, by_coming_up, by_coming_down, goes}
 use Rattle.dap_drive.specs.PrivateFaults.{FrameLaws, fault_of_client, fault_of_adapter}
 use Rattle.dap_drive.specs.PrivateFrames.{AreFrames, AreFramesOf}
-use Rattle.dap_drive.specs.PrivateHeld.{Driving, BothEnds, IsClientAt, IsAdapterAt, HasDelivered, StopsDelivering}
-use Rattle.dap_drive.specs.Driven.{IsLeft}
+use Rattle.dap_drive.specs.PrivateHeld.{Driving, BothEnds, IsClientAt, IsAdapterAt, HasDelivered, StopsOn, Delivering}
+use Rattle.dap_drive.specs.Driven.{AdapterStops, ClientStops}
 use Rattle.dap_drive.specs.PrivateLines.{IsBetween, WritesLines, IsUnwritten, lines_of}
-use Rattle.dap_drive.specs.Orders.{Delivers, one_up, one_down, LacksNumbers, HasTooManyReferences}
+use Rattle.dap_drive.specs.Orders.{one_up, one_down}
 use Rattle.dap_drive.specs.Transcript.{text_of}
 use Rattle.dap_drive.specs.declared.fault.DriveFault.{DriveFault}
 use Rattle.dap_drive.specs.declared.fault.DriveFault.TheVariants as drive_fault
@@ -240,15 +240,20 @@ module _ {D : Type 0} (laws : FrameLaws) (drive : Driving D) (agrees : EachSched
   -- ---- why the client does not
 
   client_closed : (ends : BothEnds D) (up rest : List ℕ) (h : At ends up rest) → 0 < length rest → (f : ClientFault) → ClientClosedBy ends.client.intake ends.client.session rest f
-      → (now : World D) × Delivers drive.follows start now × HasTooManyReferences now × IsLeft now ends.adapter.debuggee
+      → ClientStops (Delivering drive.follows start) ends.adapter.debuggee
   client_closed ends up rest h some f t =
       let first = some_message drive.limits h.world.down rest h.down_is some in
       let is_first = first_down ends up rest h first.0 first.1 first.2 t.n t.whole in
       let closes : client_takes first.0 h.world.client ≡ Err f = subst (λ (z : Message). client_takes z h.world.client ≡ Err f) (is_first.only t.message t.read) (subst (λ (z : ClientSession). client_takes t.message z ≡ Err f) h.at.client_at.session_is t.closes) in
       let limit : f ≡ client_fault.ReferenceLimit = (agrees drive.limits drive.debuggee h.world h.at.in_range h.at.schedule).fault.down first.0 first.1 f first.2 closes in
-      (h.world, h.delivers, (first.0, first.1, first.2, subst (λ (z : ClientFault). client_takes first.0 h.world.client ≡ Err z) limit closes), h.at.adapter_at.debuggee_is)
+      record {
+        now = h.world;
+        reaches = (refl, h.delivers);
+        has = (first.0, first.1, first.2, subst (λ (z : ClientFault). client_takes first.0 h.world.client ≡ Err z) limit closes);
+        left_is = h.at.adapter_at.debuggee_is;
+      }
 
-  pub client_stops : (ends : BothEnds D) (up rest : List ℕ) (h : At ends up rest) → 0 < length rest → (f : ClientFault) → ClientTakeRefused ends.client.intake ends.client.session rest f → StopsDelivering drive (fault_of_client f) start ends.adapter.debuggee
+  pub client_stops : (ends : BothEnds D) (up rest : List ℕ) (h : At ends up rest) → 0 < length rest → (f : ClientFault) → ClientTakeRefused ends.client.intake ends.client.session rest f → StopsOn drive.shown drive.follows (Delivering drive.follows start) (fault_of_client f) ends.adapter.debuggee
   client_stops ends up rest h some (client_fault.Frame fault) t =
       let c = h.at.client_at in
       absurd (not_closed laws.one_split (bounds_of drive.limits) laws.moves ends.client.intake t.closed c.came c.stands.received.bodies rest fault (map canon h.world.down) (header drive.limits h.at.in_range) (client_bounds laws drive.limits ends.client h.world.client c) (client_stream laws drive.limits ends.client h.world.client c) t.closes h.down_is)
@@ -397,16 +402,21 @@ module _ {D : Type 0} (laws : FrameLaws) (drive : Driving D) (agrees : EachSched
   -- ---- why the adapter does not
 
   adapter_closed : (ends : BothEnds D) (rest down : List ℕ) (h : At ends rest down) → 0 < length rest → (f : AdapterFault) (after : D) → after ≡ ends.adapter.debuggee → AdapterClosedBy ends.adapter.intake ends.adapter.session rest f
-      → (now : World D) × Delivers drive.follows start now × LacksNumbers drive.shown drive.follows to_take now after
+      → AdapterStops drive.shown drive.follows (Delivering drive.follows start) after
   adapter_closed ends rest down h some f after same t =
       let first = some_message drive.limits h.world.up rest h.up_is some in
       let is_first = first_up ends rest down h first.0 first.1 first.2 t.n t.whole in
       let closes : takes first.0 h.world.adapter.session ≡ Err f = subst (λ (z : Message). takes z h.world.adapter.session ≡ Err f) (is_first.only t.message t.read) (subst (λ (z : Session). takes t.message z ≡ Err f) h.at.adapter_at.session_is t.closes) in
       let lacks : f ≡ adapter_fault.SeqExhausted = (agrees drive.limits drive.debuggee h.world h.at.in_range h.at.schedule).fault.up first.0 first.1 f first.2 closes in
-      (h.world, h.delivers, (first.0, first.1, first.2, subst (λ (z : AdapterFault). takes first.0 h.world.adapter.session ≡ Err z) lacks closes, same ∙ h.at.adapter_at.debuggee_is))
+      record {
+        next = to_take;
+        now = h.world;
+        reaches = (refl, h.delivers);
+        lacks = (first.0, first.1, first.2, subst (λ (z : AdapterFault). takes first.0 h.world.adapter.session ≡ Err z) lacks closes, same ∙ h.at.adapter_at.debuggee_is);
+      }
 
   pub adapter_stops : (ends : BothEnds D) (rest down : List ℕ) (h : At ends rest down) → 0 < length rest → (f : AdapterFault) (after : D) → (f ≢ adapter_fault.OutOfMemory → after ≡ ends.adapter.debuggee) → AdapterTakeRefused ends.adapter.intake (state_of ends.adapter) rest f after
-      → StopsDelivering drive (fault_of_adapter f) start after
+      → StopsOn drive.shown drive.follows (Delivering drive.follows start) (fault_of_adapter f) after
   adapter_stops ends rest down h some (adapter_fault.Frame fault) after same t =
       let a = h.at.adapter_at in
       absurd (not_closed laws.one_split (bounds_of drive.limits) laws.moves ends.adapter.intake t.closed a.came a.stands.received.bodies rest fault (map canon h.world.up) (header drive.limits h.at.in_range) (adapter_bounds laws drive.limits ends.adapter h.world.adapter a) (adapter_stream laws drive.limits ends.adapter h.world.adapter a) t.closes h.up_is)

@@ -49,12 +49,12 @@ use Rattle.dap_world.specs.World.{World, fresh_world, client_said, adapter_said,
 use Rattle.dap_drive.specs.Driven.{AdapterStops}
 use Rattle.dap_drive.specs.PrivateFaults.{FrameLaws, fault_of_adapter, fault_of_answer}
 use Rattle.dap_drive.specs.PrivateFrames.{AreFramesOf}
-use Rattle.dap_drive.specs.PrivateHeld.{Driving, BothEnds, IsClientAt, IsAdapterAt, HasDelivered, HasSettled, IsQuiet, HasDone, HasTurned, HasPolled, Spends, left_to_do, next_after_polls, StopsDelivering, StopsOrder, StopsSend, StopsAnswer}
+use Rattle.dap_drive.specs.PrivateHeld.{Driving, BothEnds, IsClientAt, IsAdapterAt, HasDelivered, HasSettled, IsQuiet, HasDone, HasTurned, HasPolled, Spends, left_to_do, next_after_polls, StopsOn, Delivering, StopsOrder}
 use Rattle.dap_drive.specs.PrivateLines.{WritesLines, IsUnwritten}
 use Rattle.dap_drive.specs.Orders.{Delivers, DoesSend, DoesAnswer, RunsTo, none, begins, handled, idles, polled, Reaches, in_send, in_answer, before_turn, in_turn, before_poll, in_poll, in_run, in_run_turn, in_run_poll, LacksNumbers}
 use Rattle.dap_drive.specs.declared.fault.DriveFault.{DriveFault}
 use Rattle.dap_drive.specs.declared.fault.DriveFault.TheVariants as fault
-use Rattle.dap_drive.specs.declared.script.Order.TheVariants.{Answer as ToAnswer, Turn as ToTurn, Poll as ToPoll, Run as ToRun}
+use Rattle.dap_drive.specs.declared.script.Order.TheVariants.{Send as ToSend, Answer as ToAnswer, Turn as ToTurn, Poll as ToPoll, Run as ToRun}
 use Rattle.dap_drive.specs.declared.writing.Unwritten.TheVariants as unwritten
 use Rattle.dap_drive.proofs.Delivering.{longer, written, not_unwritten, adapter_steps, step_of, step_back, step_within, step_bytes, still_between}
 use Rattle.dap_drive.proofs.Streams.{none as no_frames, none_left, between_still}
@@ -64,6 +64,22 @@ use Rattle.dap_drive.proofs.Streams.{none as no_frames, none_left, between_still
 pub part_by_part : (P Q : List ℕ → Type 0) (at n : ℕ) (all rest : List ℕ) → rest ≡ drop at all → (P rest → Q (drop n rest)) → P (drop at all) → Q (drop (at + n) all)
 part_by_part P Q at n all rest is go p =
     subst Q (ap (λ (z : List ℕ). drop n z) is ∙ drop-drop n at all) (go (subst P (sym is) p))
+
+-- ---- a way that ends early
+
+module _ {D : Type 0} (shown : D → Shown) (follows : Goes D) (way : Next → World D → Type 0) where
+  -- and one that leads where it leads
+  pub stops_too : (part : Next → World D → Type 0) → ((next : Next) (now : World D) → part next now → way next now) → (f : DriveFault) (left : D) → StopsOn shown follows part f left → StopsOn shown follows way f left
+  stops_too part leads fault.Recording left h = absurd h
+  stops_too part leads (fault.Script line) left h = absurd h
+  stops_too part leads (fault.Call line) left h = absurd h
+  stops_too part leads (fault.Send line cause) left h = absurd h
+  stops_too part leads fault.Adapter left h = record { next = h.next; now = h.now; reaches = leads h.next h.now h.reaches; lacks = h.lacks }
+  stops_too part leads fault.Client left h = record { now = h.now; reaches = leads to_take h.now h.reaches; has = h.has; left_is = h.left_is }
+  stops_too part leads fault.OutOfMemory left h = tt
+
+  pub stops_delivering : (start : World D) → ((now : World D) → Delivers follows start now → way to_take now) → (f : DriveFault) (left : D) → StopsOn shown follows (Delivering follows start) f left → StopsOn shown follows way f left
+  stops_delivering start leads f left h = stops_too (Delivering follows start) (λ next now d. subst (λ (z : Next). way z now) (sym d.0) (leads now d.1)) f left h
 
 -- ---- nothing is under way
 
@@ -316,16 +332,10 @@ module _ {D : Type 0} (laws : FrameLaws) (drive : Driving D) (agrees : EachSched
   -- where what comes of it ends early
   pub send_stops : (ends : BothEnds D) (start : World D) (call : Call) (f : DriveFault) (left : D) (number : ℕ) (q : IsQuiet drive ends start)
       → IsTrue (is_plain_call call) → refusal_of call ends.client ≡ None → ReadsBack ends.client.session.limits.body (next_message ends.client.session call)
-      → StopsDelivering drive f (client_said (after_send call start.client) (next_message start.client call ∷ []) start) left → StopsSend drive number call f start left
-  send_stops ends start call fault.Recording left number q plain free back h = absurd h
-  send_stops ends start call (fault.Script line) left number q plain free back h = absurd h
-  send_stops ends start call (fault.Call line) left number q plain free back h = absurd h
-  send_stops ends start call (fault.Send line cause) left number q plain free back h = absurd h
-  send_stops ends start call fault.Adapter left number q plain free back h =
-      record { next = to_take; now = h.0; reaches = in_send call start (client_said (after_send call start.client) (next_message start.client call ∷ []) start) h.0 (sends_so ends start call q plain free back) h.1; lacks = h.2 }
-  send_stops ends start call fault.Client left number q plain free back h =
-      record { now = h.0; reaches = in_send call start (client_said (after_send call start.client) (next_message start.client call ∷ []) start) h.0 (sends_so ends start call q plain free back) h.1; has = h.2; left_is = h.3 }
-  send_stops ends start call fault.OutOfMemory left number q plain free back h = tt
+      → StopsOn drive.shown drive.follows (Delivering drive.follows (client_said (after_send call start.client) (next_message start.client call ∷ []) start)) f left → StopsOrder drive.shown drive.follows number (ToSend call) f start left
+  send_stops ends start call f left number q plain free back h =
+      let sent = client_said (after_send call start.client) (next_message start.client call ∷ []) start in
+      inr (stops_delivering drive.shown drive.follows (Reaches drive.shown drive.follows (ToSend call) start) sent (λ now d. in_send call start sent now (sends_so ends start call q plain free back) d) f left h)
 
   -- ---- the client answers
 
@@ -380,15 +390,15 @@ module _ {D : Type 0} (laws : FrameLaws) (drive : Driving D) (agrees : EachSched
       subst (λ (z : AnswerFault). first_terminal_refusal request_seq false start.client ≡ Some z) (only_numbers request_seq start.client f (oldest_at ends start (Some request_seq) q kept) there) there
 
   short : (ends : BothEnds D) (start : World D) (request_seq : ℕ) (terminal : Terminal) (f : AnswerFault) (number : ℕ) (q : IsQuiet drive ends start) → oldest_of ends.client.session.incoming ≡ Some request_seq → answer_refusal_of request_seq ends.client ≡ Some f
-      → StopsAnswer drive number terminal fault.Client start ends.adapter.debuggee
-  short ends start request_seq terminal f number q kept refused = inr ((request_seq, oldest_at ends start (Some request_seq) q kept, no_number ends start request_seq f q kept refused), q.at.adapter_at.debuggee_is)
+      → StopsOrder drive.shown drive.follows number (ToAnswer terminal) fault.Client start ends.adapter.debuggee
+  short ends start request_seq terminal f number q kept refused = inl ((request_seq, oldest_at ends start (Some request_seq) q kept, no_number ends start request_seq f q kept refused), q.at.adapter_at.debuggee_is)
 
   pub answer_refused : (ends : BothEnds D) (start : World D) (request_seq : ℕ) (terminal : Terminal) (f : AnswerFault) (number : ℕ) (q : IsQuiet drive ends start) → oldest_of ends.client.session.incoming ≡ Some request_seq → NotAnswered f request_seq ends.client
-      → StopsAnswer drive number terminal (fault_of_answer f) start ends.adapter.debuggee
+      → StopsOrder drive.shown drive.follows number (ToAnswer terminal) (fault_of_answer f) start ends.adapter.debuggee
   answer_refused ends start request_seq terminal answer_fault.Ended number q kept t = short ends start request_seq terminal answer_fault.Ended number q kept t
   answer_refused ends start request_seq terminal answer_fault.NotKept number q kept t = short ends start request_seq terminal answer_fault.NotKept number q kept t
   answer_refused ends start request_seq terminal answer_fault.SeqExhausted number q kept t = short ends start request_seq terminal answer_fault.SeqExhausted number q kept t
-  answer_refused ends start request_seq terminal answer_fault.OutOfMemory number q kept t = tt
+  answer_refused ends start request_seq terminal answer_fault.OutOfMemory number q kept t = inr tt
 
   -- where what comes of it ends early
   reached : (ends : BothEnds D) (start now : World D) (request_seq : ℕ) (terminal : Terminal) (q : IsQuiet drive ends start) → MayAnswer ends.client request_seq terminal → Delivers drive.follows (wrote (answering request_seq terminal) start) now
@@ -396,14 +406,9 @@ module _ {D : Type 0} (laws : FrameLaws) (drive : Driving D) (agrees : EachSched
   reached ends start now request_seq terminal q may delivers = in_answer terminal request_seq start (wrote (answering request_seq terminal) start) now (oldest_at ends start (Some request_seq) q may.oldest) (answers_so ends start request_seq terminal q may) delivers
 
   pub answer_stops : (ends : BothEnds D) (start : World D) (request_seq : ℕ) (terminal : Terminal) (f : DriveFault) (left : D) (number : ℕ) (q : IsQuiet drive ends start) → MayAnswer ends.client request_seq terminal
-      → StopsDelivering drive f (client_said (after_terminal_response request_seq start.client) (next_terminal_response start.client request_seq terminal ∷ []) start) left → StopsAnswer drive number terminal f start left
-  answer_stops ends start request_seq terminal fault.Recording left number q may h = absurd h
-  answer_stops ends start request_seq terminal (fault.Script line) left number q may h = absurd h
-  answer_stops ends start request_seq terminal (fault.Call line) left number q may h = absurd h
-  answer_stops ends start request_seq terminal (fault.Send line cause) left number q may h = absurd h
-  answer_stops ends start request_seq terminal fault.Adapter left number q may h = record { next = to_take; now = h.0; reaches = reached ends start h.0 request_seq terminal q may h.1; lacks = h.2 }
-  answer_stops ends start request_seq terminal fault.Client left number q may h = inl (record { now = h.0; reaches = reached ends start h.0 request_seq terminal q may h.1; has = h.2; left_is = h.3 })
-  answer_stops ends start request_seq terminal fault.OutOfMemory left number q may h = tt
+      → StopsOn drive.shown drive.follows (Delivering drive.follows (client_said (after_terminal_response request_seq start.client) (next_terminal_response start.client request_seq terminal ∷ []) start)) f left → StopsOrder drive.shown drive.follows number (ToAnswer terminal) f start left
+  answer_stops ends start request_seq terminal f left number q may h =
+      inr (stops_delivering drive.shown drive.follows (Reaches drive.shown drive.follows (ToAnswer terminal) start) (wrote (answering request_seq terminal) start) (λ now d. reached ends start now request_seq terminal q may d) f left h)
 
   -- ---- the adapter goes on by itself
 
@@ -536,10 +541,10 @@ module _ {D : Type 0} (laws : FrameLaws) (drive : Driving D) (agrees : EachSched
       let there : turns (drive.shown start.adapter.debuggee) start.adapter.session ≡ Err f = rw (a.session_is, a.debuggee_is) at e in
       (subst (λ (z : AdapterFault). turns (drive.shown start.adapter.debuggee) start.adapter.session ≡ Err z) ((agrees drive.limits drive.debuggee start q.at.in_range q.at.schedule).fault.turn f there) there, same ∙ a.debuggee_is)
 
-  no_turn : (start : World D) (left : D) → LacksNumbers drive.shown drive.follows to_turn start left → AdapterStops drive.shown drive.follows ToTurn start left
+  no_turn : (start : World D) (left : D) → LacksNumbers drive.shown drive.follows to_turn start left → AdapterStops drive.shown drive.follows (Reaches drive.shown drive.follows ToTurn start) left
   no_turn start left lacks = record { next = to_turn; now = start; reaches = before_turn start; lacks = lacks }
 
-  pub turn_refused : (ends : BothEnds D) (new : AdapterState D) (start : World D) (q : IsQuiet drive ends start) (f : AdapterFault) → TurnRefused drive.shown ends.adapter f new → StopsOrder drive ToTurn (fault_of_adapter f) start new.debuggee
+  pub turn_refused : (ends : BothEnds D) (new : AdapterState D) (start : World D) (q : IsQuiet drive ends start) (f : AdapterFault) → TurnRefused drive.shown ends.adapter f new → StopsOn drive.shown drive.follows (Reaches drive.shown drive.follows ToTurn start) (fault_of_adapter f) new.debuggee
   turn_refused ends new start q (adapter_fault.Frame x) t = no_turn start new.debuggee (lacks_turn ends new start q (adapter_fault.Frame x) t.0 t.1)
   turn_refused ends new start q (adapter_fault.Body cause offset) t = no_turn start new.debuggee (lacks_turn ends new start q (adapter_fault.Body cause offset) t.0 t.1)
   turn_refused ends new start q (adapter_fault.RepeatedSeq x) t = no_turn start new.debuggee (lacks_turn ends new start q (adapter_fault.RepeatedSeq x) t.0 t.1)
@@ -550,16 +555,12 @@ module _ {D : Type 0} (laws : FrameLaws) (drive : Driving D) (agrees : EachSched
   turn_refused ends new start q adapter_fault.OutOfMemory t = tt
 
   pub turn_stops : (ends : BothEnds D) (new : AdapterState D) (bytes : List ℕ) (start : World D) (q : IsQuiet drive ends start) (t : Handled drive.shown drive.follows ends.adapter bytes new) (f : DriveFault) (left : D)
-      → StopsDelivering drive f (spoke new t.step.session.made start) left → StopsOrder drive ToTurn f start left
-  turn_stops ends new bytes start q t fault.Recording left h = absurd h
-  turn_stops ends new bytes start q t (fault.Script line) left h = absurd h
-  turn_stops ends new bytes start q t (fault.Call line) left h = absurd h
-  turn_stops ends new bytes start q t (fault.Send line cause) left h = absurd h
-  turn_stops ends new bytes start q t fault.Adapter left h = record { next = to_take; now = h.0; reaches = in_turn start (spoke new t.step.session.made start) h.0 (turns_so ends new bytes start q t) h.1; lacks = h.2 }
-  turn_stops ends new bytes start q t fault.Client left h = record { now = h.0; reaches = in_turn start (spoke new t.step.session.made start) h.0 (turns_so ends new bytes start q t) h.1; has = h.2; left_is = h.3 }
-  turn_stops ends new bytes start q t fault.OutOfMemory left h = tt
+      → StopsOn drive.shown drive.follows (Delivering drive.follows (spoke new t.step.session.made start)) f left → StopsOn drive.shown drive.follows (Reaches drive.shown drive.follows ToTurn start) f left
+  turn_stops ends new bytes start q t f left h =
+      let turned = spoke new t.step.session.made start in
+      stops_delivering drive.shown drive.follows (Reaches drive.shown drive.follows ToTurn start) turned (λ now d. in_turn start turned now (turns_so ends new bytes start q t) d) f left h
 
-  pub poll_refused : (ends : BothEnds D) (new : AdapterState D) (start : World D) (q : IsQuiet drive ends start) (f : AdapterFault) → PollRefused drive.follows ends.adapter f new → StopsOrder drive ToPoll (fault_of_adapter f) start new.debuggee
+  pub poll_refused : (ends : BothEnds D) (new : AdapterState D) (start : World D) (q : IsQuiet drive ends start) (f : AdapterFault) → PollRefused drive.follows ends.adapter f new → StopsOn drive.shown drive.follows (Reaches drive.shown drive.follows ToPoll start) (fault_of_adapter f) new.debuggee
   poll_refused ends new start q (adapter_fault.Frame x) t = absurd t
   poll_refused ends new start q (adapter_fault.Body cause offset) t = absurd t
   poll_refused ends new start q (adapter_fault.RepeatedSeq x) t = absurd t
@@ -572,14 +573,10 @@ module _ {D : Type 0} (laws : FrameLaws) (drive : Driving D) (agrees : EachSched
   poll_refused ends new start q adapter_fault.OutOfMemory t = tt
 
   pub poll_stops : (ends : BothEnds D) (new : AdapterState D) (bytes : List ℕ) (start : World D) (q : IsQuiet drive ends start) (t : Saw drive.follows ends.adapter bytes new) (f : DriveFault) (left : D)
-      → StopsDelivering drive f (spoke new t.step.session.made start) left → StopsOrder drive ToPoll f start left
-  poll_stops ends new bytes start q t fault.Recording left h = absurd h
-  poll_stops ends new bytes start q t (fault.Script line) left h = absurd h
-  poll_stops ends new bytes start q t (fault.Call line) left h = absurd h
-  poll_stops ends new bytes start q t (fault.Send line cause) left h = absurd h
-  poll_stops ends new bytes start q t fault.Adapter left h = record { next = to_take; now = h.0; reaches = in_poll start (spoke new t.step.session.made start) h.0 (polls_so ends new bytes start q t) h.1; lacks = h.2 }
-  poll_stops ends new bytes start q t fault.Client left h = record { now = h.0; reaches = in_poll start (spoke new t.step.session.made start) h.0 (polls_so ends new bytes start q t) h.1; has = h.2; left_is = h.3 }
-  poll_stops ends new bytes start q t fault.OutOfMemory left h = tt
+      → StopsOn drive.shown drive.follows (Delivering drive.follows (spoke new t.step.session.made start)) f left → StopsOn drive.shown drive.follows (Reaches drive.shown drive.follows ToPoll start) f left
+  poll_stops ends new bytes start q t f left h =
+      let polled = spoke new t.step.session.made start in
+      stops_delivering drive.shown drive.follows (Reaches drive.shown drive.follows ToPoll start) polled (λ now d. in_poll start polled now (polls_so ends new bytes start q t) d) f left h
 
   -- ---- two fresh ends
 
@@ -665,14 +662,8 @@ module _ {D : Type 0} (laws : FrameLaws) (drive : Driving D) (agrees : EachSched
   in_turns start v _ _ r (before_turn _) = in_run to_turn start v r
   in_turns start v _ now r (in_turn _ u _ turns delivers) = in_run_turn start v u now r turns delivers
 
-  pub run_turn_stops : (start v : World D) (f : DriveFault) (left : D) → RunsTo drive.shown drive.follows start to_turn v → StopsOrder drive ToTurn f v left → StopsOrder drive ToRun f start left
-  run_turn_stops start v fault.Recording left r h = absurd h
-  run_turn_stops start v (fault.Script line) left r h = absurd h
-  run_turn_stops start v (fault.Call line) left r h = absurd h
-  run_turn_stops start v (fault.Send line cause) left r h = absurd h
-  run_turn_stops start v fault.Adapter left r h = record { next = h.next; now = h.now; reaches = in_turns start v h.next h.now r h.reaches; lacks = h.lacks }
-  run_turn_stops start v fault.Client left r h = record { now = h.now; reaches = in_turns start v to_take h.now r h.reaches; has = h.has; left_is = h.left_is }
-  run_turn_stops start v fault.OutOfMemory left r h = tt
+  pub run_turn_stops : (start v : World D) (f : DriveFault) (left : D) → RunsTo drive.shown drive.follows start to_turn v → StopsOn drive.shown drive.follows (Reaches drive.shown drive.follows ToTurn v) f left → StopsOn drive.shown drive.follows (Reaches drive.shown drive.follows ToRun start) f left
+  run_turn_stops start v f left r h = stops_too drive.shown drive.follows (Reaches drive.shown drive.follows ToRun start) (Reaches drive.shown drive.follows ToTurn v) (λ next now t. in_turns start v next now r t) f left h
 
   -- a poll of a run stands for any number of them
   abbrev after_polls : ℕ → Next → Next
@@ -689,7 +680,7 @@ module _ {D : Type 0} (laws : FrameLaws) (drive : Driving D) (agrees : EachSched
   lacks_still made to_turn now left h = h
   lacks_still made (to_poll n) now left h = h
 
-  run_poll_so : (start v : World D) (made : ℕ) (f : DriveFault) (left : D) → RunsTo drive.shown drive.follows start (to_poll made) v → StopsOrder drive ToPoll f v left → StopsOrder drive ToRun f start left
+  run_poll_so : (start v : World D) (made : ℕ) (f : DriveFault) (left : D) → RunsTo drive.shown drive.follows start (to_poll made) v → StopsOn drive.shown drive.follows (Reaches drive.shown drive.follows ToPoll v) f left → StopsOn drive.shown drive.follows (Reaches drive.shown drive.follows ToRun start) f left
   run_poll_so start v made fault.Recording left r h = absurd h
   run_poll_so start v made (fault.Script line) left r h = absurd h
   run_poll_so start v made (fault.Call line) left r h = absurd h
@@ -698,5 +689,5 @@ module _ {D : Type 0} (laws : FrameLaws) (drive : Driving D) (agrees : EachSched
   run_poll_so start v made fault.Client left r h = record { now = h.now; reaches = in_polls start v made to_take h.now r h.reaches; has = h.has; left_is = h.left_is }
   run_poll_so start v made fault.OutOfMemory left r h = tt
 
-  pub run_poll_stops : (start v : World D) (made : ℕ) (f : DriveFault) (left : D) → RunsTo drive.shown drive.follows start (next_after_polls made) v → made < 65536 → StopsOrder drive ToPoll f v left → StopsOrder drive ToRun f start left
+  pub run_poll_stops : (start v : World D) (made : ℕ) (f : DriveFault) (left : D) → RunsTo drive.shown drive.follows start (next_after_polls made) v → made < 65536 → StopsOn drive.shown drive.follows (Reaches drive.shown drive.follows ToPoll v) f left → StopsOn drive.shown drive.follows (Reaches drive.shown drive.follows ToRun start) f left
   run_poll_stops start v made f left r below h = run_poll_so start v made f left (subst (λ (z : Next). RunsTo drive.shown drive.follows start z v) (polling_below made below) r) h

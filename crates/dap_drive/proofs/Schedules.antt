@@ -63,7 +63,7 @@ module _ {D : Type 0} (shown : D → Shown) (follows : Goes D) (limits : Setting
 
   -- ---- where a stop lasts
 
-  pub no-limit : AreInRange limits → ReferencesAgreeWhileStopsLast shown follows → StopsLast shown follows → (o : Order) (w : World D) (left : D) → Leads w → ClientStops shown follows o w left → ⊥
+  pub no-limit : AreInRange limits → ReferencesAgreeWhileStopsLast shown follows → StopsLast shown follows → (o : Order) (w : World D) (left : D) → Leads w → ClientStops (Reaches shown follows o w) left → ⊥
   no-limit r agree stops o w left s c =
       let there = lasting shown follows limits debuggee c.now stops (reached o w c.now _ s c.reaches) in
       (agree limits debuggee c.now r there).client c.has.0 c.has.1 ReferenceLimit c.has.2 c.has.3

@@ -3,20 +3,18 @@ use Rattle.std.proofs.Common.{◌≡◌, ℕ, ◌+◌, ◌<◌, List, [], ◌∷
 use Rattle.std.proofs.lemmas.List.{length-append}
 use Rattle.std.specs.Str.Lines.{lines}
 use Rattle.dap_envelope.specs.OneLine.{CanonIsOneLine}
-use Rattle.dap_call.specs.declared.call.Call.{Call}
-use Rattle.dap_client.specs.declared.terminal.Terminal.{Terminal}
-use Rattle.dap_drive.specs.Driven.{Drives, StopsWith, StopsAt, SaysOf}
+use Rattle.dap_drive.specs.Driven.{Drives, StopsWith, StopsAt, SaysOf, IsLeft}
 use Rattle.dap_world.specs.Agreement.{EachScheduleAgrees}
 use Rattle.dap_world.specs.Transcripts.{EachTranscriptKeepsRules}
 use Rattle.dap_world.specs.World.{World, fresh_world}
-use Rattle.dap_drive.specs.PrivateHeld.{Driving, BothEnds, IsQuiet, HasDone, HasTurned, HasPolled, DoesLine, HasRun, StopsOrder, StopsSend, StopsAnswer}
-use Rattle.dap_drive.specs.Orders.{Does, DoesTurn, Ran, idle, handles, starts, skips, does}
+use Rattle.dap_drive.specs.PrivateHeld.{Driving, BothEnds, IsQuiet, HasDone, HasTurned, HasPolled, DoesLine, HasRun, StopsOn, IsRefused, StopsOrder}
+use Rattle.dap_drive.specs.Orders.{Does, DoesTurn, Ran, Reaches, idle, handles, starts, skips, does}
 use Rattle.dap_drive.specs.Script.{is_skipped, order_of}
 use Rattle.dap_drive.proofs.Reading.{is_read}
 use Rattle.dap_drive.specs.declared.fault.DriveFault.{DriveFault}
 use Rattle.dap_drive.specs.declared.fault.DriveFault.TheVariants as fault
 use Rattle.dap_drive.specs.declared.script.Order.{Order}
-use Rattle.dap_drive.specs.declared.script.Order.TheVariants.{Send, Answer, Turn, Poll}
+use Rattle.dap_drive.specs.declared.script.Order.TheVariants.{Turn, Poll}
 
 module _ {D : Type 0} (drive : Driving D) where
   -- ---- one order
@@ -37,32 +35,27 @@ module _ {D : Type 0} (drive : Driving D) where
       → HasDone drive (DoesLine drive.shown drive.follows text) start ends
   poll_line text last start ends is h = record { world = h.world; done = (Poll, is, h.done.does); quiet = h.quiet }
 
-  pub send_line_stops : (f : DriveFault) (left : D) (number : ℕ) (text : List ℕ) (call : Call) (start : World D) → order_of text ≡ Ok (Send call) → StopsSend drive number call f start left → SaysOf drive.shown drive.follows f left number text start
-  send_line_stops fault.Recording left number text call start is h = absurd h
-  send_line_stops (fault.Script line) left number text call start is h = absurd h
-  send_line_stops (fault.Call line) left number text call start is h = absurd h
-  send_line_stops (fault.Send line cause) left number text call start is h = (h.0, (call, is, h.1), h.2)
-  send_line_stops fault.Adapter left number text call start is h = (Send call, is, h)
-  send_line_stops fault.Client left number text call start is h = (Send call, is, inl h)
-  send_line_stops fault.OutOfMemory left number text call start is h = tt
+  pub line_ends_early : (o : Order) (f : DriveFault) (left : D) (number : ℕ) (text : List ℕ) (start : World D) → order_of text ≡ Ok o → StopsOn drive.shown drive.follows (Reaches drive.shown drive.follows o start) f left → SaysOf drive.shown drive.follows f left number text start
+  line_ends_early o fault.Recording left number text start is h = absurd h
+  line_ends_early o (fault.Script line) left number text start is h = absurd h
+  line_ends_early o (fault.Call line) left number text start is h = absurd h
+  line_ends_early o (fault.Send line cause) left number text start is h = absurd h
+  line_ends_early o fault.Adapter left number text start is h = (o, is, h)
+  line_ends_early o fault.Client left number text start is h = (o, is, inl h)
+  line_ends_early o fault.OutOfMemory left number text start is h = tt
 
-  pub answer_line_stops : (f : DriveFault) (left : D) (number : ℕ) (text : List ℕ) (terminal : Terminal) (start : World D) → order_of text ≡ Ok (Answer terminal) → StopsAnswer drive number terminal f start left → SaysOf drive.shown drive.follows f left number text start
-  answer_line_stops fault.Recording left number text terminal start is h = absurd h
-  answer_line_stops (fault.Script line) left number text terminal start is h = absurd h
-  answer_line_stops (fault.Call line) left number text terminal start is h = (h.0, inr (terminal, is, h.1), h.2)
-  answer_line_stops (fault.Send line cause) left number text terminal start is h = absurd h
-  answer_line_stops fault.Adapter left number text terminal start is h = (Answer terminal, is, h)
-  answer_line_stops fault.Client left number text terminal start is h = (Answer terminal, is, h)
-  answer_line_stops fault.OutOfMemory left number text terminal start is h = tt
+  line_refused : (o : Order) (f : DriveFault) (left : D) (number : ℕ) (text : List ℕ) (start : World D) → order_of text ≡ Ok o → IsRefused number o f start → IsLeft start left → SaysOf drive.shown drive.follows f left number text start
+  line_refused o fault.Recording left number text start is r l = absurd r
+  line_refused o (fault.Script line) left number text start is r l = absurd r
+  line_refused o (fault.Call line) left number text start is r l = (r.0, inr (r.1, subst (λ (z : Order). order_of text ≡ Ok z) r.2 is, r.3), l)
+  line_refused o (fault.Send line cause) left number text start is r l = (r.0, (r.1, subst (λ (z : Order). order_of text ≡ Ok z) r.2 is, r.3), l)
+  line_refused o fault.Adapter left number text start is r l = absurd r
+  line_refused o fault.Client left number text start is r l = (o, is, inr (r, l))
+  line_refused o fault.OutOfMemory left number text start is r l = tt
 
-  pub order_line_stops : (o : Order) (f : DriveFault) (left : D) (number : ℕ) (text : List ℕ) (start : World D) → order_of text ≡ Ok o → StopsOrder drive o f start left → SaysOf drive.shown drive.follows f left number text start
-  order_line_stops o fault.Recording left number text start is h = absurd h
-  order_line_stops o (fault.Script line) left number text start is h = absurd h
-  order_line_stops o (fault.Call line) left number text start is h = absurd h
-  order_line_stops o (fault.Send line cause) left number text start is h = absurd h
-  order_line_stops o fault.Adapter left number text start is h = (o, is, h)
-  order_line_stops o fault.Client left number text start is h = (o, is, inl h)
-  order_line_stops o fault.OutOfMemory left number text start is h = tt
+  pub order_line_stops : (o : Order) (f : DriveFault) (left : D) (number : ℕ) (text : List ℕ) (start : World D) → order_of text ≡ Ok o → StopsOrder drive.shown drive.follows number o f start left → SaysOf drive.shown drive.follows f left number text start
+  order_line_stops o f left number text start is (inl h) = line_refused o f left number text start is h.0 h.1
+  order_line_stops o f left number text start is (inr h) = line_ends_early o f left number text start is h
 
   -- ---- one line
 

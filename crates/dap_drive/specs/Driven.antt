@@ -49,18 +49,18 @@ pub record StopsAt {D : Type 0} (shown : D → Shown) (follows : Goes D) (limits
   pub ran : Ran shown follows limits debuggee before world
   pub stops : says (length before + 1) text world
 
--- The order of the line leads to a world where the adapter lacks own numbers for what it does next. Else it takes what
--- comes, handles it and tells what happened.
-pub record AdapterStops {D : Type 0} (shown : D → Shown) (follows : Goes D) (o : Order) (w : World D) (left : D) : Type 0 where
+-- A way leads to worlds, each with what is done there next. This one leads to a world where the adapter lacks own numbers for
+-- just that. Else it takes what comes, handles it and tells what happened.
+pub record AdapterStops {D : Type 0} (shown : D → Shown) (follows : Goes D) (way : Next → World D → Type 0) (left : D) : Type 0 where
   pub next : Next
   pub now : World D
-  pub reaches : Reaches shown follows o w next now
+  pub reaches : way next now
   pub lacks : LacksNumbers shown follows next now left
 
 -- it leads to a world where the next message gives the client too many references
-pub record ClientStops {D : Type 0} (shown : D → Shown) (follows : Goes D) (o : Order) (w : World D) (left : D) : Type 0 where
+pub record ClientStops {D : Type 0} (way : Next → World D → Type 0) (left : D) : Type 0 where
   pub now : World D
-  pub reaches : Reaches shown follows o w to_take now
+  pub reaches : way to_take now
   pub has : HasTooManyReferences now
   pub left_is : left ≡ now.adapter.debuggee
 
@@ -83,8 +83,8 @@ SaysOf shown follows Recording left number text w = ⊥
 SaysOf shown follows (Script line) left number text w = (line ≡ number) × (order_of text ≡ Err unread.Script) × IsLeft w left
 SaysOf shown follows (Call line) left number text w = (line ≡ number) × ((order_of text ≡ Err unread.Call) ⊎ HasNoneToAnswer text w) × IsLeft w left
 SaysOf shown follows (Send line cause) left number text w = (line ≡ number) × ((call : TheCall) × (order_of text ≡ Ok (order.Send call)) × (first_of refusals_in_order call false w.client ≡ Some cause)) × IsLeft w left
-SaysOf shown follows Adapter left number text w = (o : Order) × (order_of text ≡ Ok o) × AdapterStops shown follows o w left
-SaysOf shown follows Client left number text w = (o : Order) × (order_of text ≡ Ok o) × (ClientStops shown follows o w left ⊎ (LacksNumberToAnswer o w × IsLeft w left))
+SaysOf shown follows Adapter left number text w = (o : Order) × (order_of text ≡ Ok o) × AdapterStops shown follows (Reaches shown follows o w) left
+SaysOf shown follows Client left number text w = (o : Order) × (order_of text ≡ Ok o) × (ClientStops (Reaches shown follows o w) left ⊎ (LacksNumberToAnswer o w × IsLeft w left))
 -- memory may be refused anywhere
 SaysOf shown follows OutOfMemory left number text w = Unit {0}
 

@@ -24,7 +24,7 @@ use Rattle.dap_world.specs.World.{World, IsIdle, Schedule}
 use Rattle.dap_drive.specs.Driven.{AdapterStops, ClientStops, LacksNumberToAnswer, IsLeft}
 use Rattle.dap_drive.specs.PrivateFrames.{AreFramesOf}
 use Rattle.dap_drive.specs.PrivateLines.{IsBetween}
-use Rattle.dap_drive.specs.Orders.{Delivers, Settles, Handles, DoesPoll, Does, Ran, LacksNumbers, HasTooManyReferences}
+use Rattle.dap_drive.specs.Orders.{Delivers, Settles, Handles, DoesPoll, Does, Ran, Reaches}
 use Rattle.dap_drive.specs.Script.{order_of}
 use Rattle.dap_drive.specs.Transcript.{text_of}
 use Rattle.dap_drive.specs.declared.ends.Drive.{Drive}
@@ -140,30 +140,28 @@ left_to_do client adapter = (adapter.session.limits.requests + 1) * (client.sess
 
 -- ---- faults of an order
 
--- why delivering ends early: some of it led to a world where the end that takes the next message is closed, or memory was refused
-abbrev pub StopsDelivering : {D : Type 0} → Driving D → DriveFault → World D → D → Type 0
-StopsDelivering {D} drive Adapter start left = (now : World D) × Delivers drive.follows start now × LacksNumbers drive.shown drive.follows to_take now left
-StopsDelivering {D} drive Client start left = (now : World D) × Delivers drive.follows start now × HasTooManyReferences now × IsLeft now left
-StopsDelivering drive OutOfMemory start left = Unit {0}
-StopsDelivering drive fault start left = ⊥
+-- a way that ends early stops so: at the adapter, at the client, or since memory was refused
+abbrev pub StopsOn : {D : Type 0} → (D → Shown) → Goes D → (Next → World D → Type 0) → DriveFault → D → Type 0
+StopsOn shown follows way Adapter left = AdapterStops shown follows way left
+StopsOn shown follows way Client left = ClientStops way left
+StopsOn shown follows way OutOfMemory left = Unit {0}
+StopsOn shown follows way fault left = ⊥
 
--- why an order is not done, other than that it is not sent
-abbrev pub StopsOrder : {D : Type 0} → Driving D → Order → DriveFault → World D → D → Type 0
-StopsOrder drive o Adapter start left = AdapterStops drive.shown drive.follows o start left
-StopsOrder drive o Client start left = ClientStops drive.shown drive.follows o start left
-StopsOrder drive o OutOfMemory start left = Unit {0}
-StopsOrder drive o fault start left = ⊥
+-- the way of delivering: a message is taken next
+abbrev pub Delivering : {D : Type 0} → Goes D → World D → Next → World D → Type 0
+Delivering follows start next now = (next ≡ to_take) × Delivers follows start now
 
--- or the request on the line of this number is not sent
-abbrev pub StopsSend : {D : Type 0} → Driving D → ℕ → TheCall → DriveFault → World D → D → Type 0
-StopsSend drive number call (Send line cause) start left = (line ≡ number) × (first_of refusals_in_order call false start.client ≡ Some cause) × IsLeft start left
-StopsSend drive number call fault start left = StopsOrder drive (ToSend call) fault start left
+-- The order on the line of this number is refused before anything moves: its request is not sent; the client keeps none to
+-- answer, or has no own number for it.
+abbrev pub IsRefused : {D : Type 0} → ℕ → Order → DriveFault → World D → Type 0
+IsRefused number o (Send line cause) w = (line ≡ number) × (call : TheCall) × (o ≡ ToSend call) × (first_of refusals_in_order call false w.client ≡ Some cause)
+IsRefused number o (Call line) w = (line ≡ number) × (terminal : Terminal) × (o ≡ ToAnswer terminal) × (oldest_of w.client.incoming ≡ None)
+IsRefused number o Client w = LacksNumberToAnswer o w
+IsRefused number o fault w = ⊥
 
--- or the request that is kept is not answered on that line: there is none, or no own number for it
-abbrev pub StopsAnswer : {D : Type 0} → Driving D → ℕ → Terminal → DriveFault → World D → D → Type 0
-StopsAnswer drive number terminal (Call line) start left = (line ≡ number) × (oldest_of start.client.incoming ≡ None) × IsLeft start left
-StopsAnswer drive number terminal Client start left = ClientStops drive.shown drive.follows (ToAnswer terminal) start left ⊎ (LacksNumberToAnswer (ToAnswer terminal) start × IsLeft start left)
-StopsAnswer drive number terminal fault start left = StopsOrder drive (ToAnswer terminal) fault start left
+-- why the order on that line is not done
+abbrev pub StopsOrder : {D : Type 0} → (D → Shown) → Goes D → ℕ → Order → DriveFault → World D → D → Type 0
+StopsOrder shown follows number o fault w left = (IsRefused number o fault w × IsLeft w left) ⊎ StopsOn shown follows (Reaches shown follows o w) fault left
 
 -- ---- a script
 

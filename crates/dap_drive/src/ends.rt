@@ -133,8 +133,8 @@ pub(crate) struct Drive<D: Debuggee + Drop> {
 
 impl<D: Debuggee + Drop> Drive<D> {
     ghost use Rattle.dap_world.specs.World.{World, fresh_world};
-    ghost use Rattle.dap_drive.specs.Orders.{DoesSend, DoesAnswer, RunsTo};
-    ghost use Rattle.dap_drive.specs.PrivateHeld.{driven_by, both_of, HasDelivered, HasSettled, IsQuiet, HasDone, HasTurned, HasPolled, StopsDelivering, StopsOrder, StopsSend, StopsAnswer};
+    ghost use Rattle.dap_drive.specs.Orders.{DoesSend, DoesAnswer, RunsTo, Reaches};
+    ghost use Rattle.dap_drive.specs.PrivateHeld.{driven_by, both_of, HasDelivered, HasSettled, IsQuiet, HasDone, HasTurned, HasPolled, StopsOn, Delivering, StopsOrder};
     ghost use Rattle.dap_adapter.specs.Run.{to_take, to_turn, to_poll};
 
     /// Two fresh ends. The debuggee is not started.
@@ -198,7 +198,7 @@ impl<D: Debuggee + Drop> Drive<D> {
         ensures adapter { self.new.adapter ≡ self.old.adapter }
         ensures stops { IfErr result (λ fault. (limits : Settings) (debuggee : D) (start : World D)
             → HasDelivered (driven_by D.shown D.follows limits debuggee) start (both_of self.old) up.old.items rest.now
-            → 0 < length rest.now → StopsDelivering (driven_by D.shown D.follows limits debuggee) fault start self.new.adapter.debuggee) }
+            → 0 < length rest.now → StopsOn D.shown D.follows (Delivering D.follows start) fault self.new.adapter.debuggee) }
     {
         // Laws for the proof: both ends agree, and bytes are frames in one way only.
         each_schedule_agrees::<D>();
@@ -227,7 +227,7 @@ impl<D: Debuggee + Drop> Drive<D> {
         ensures adapter { OnOk result (self.new.adapter ≡ self.old.adapter) }
         ensures stops { IfErr result (λ fault. (limits : Settings) (debuggee : D) (start : World D)
             → HasDelivered (driven_by D.shown D.follows limits debuggee) start (both_of self.old) [] down.now
-            → StopsDelivering (driven_by D.shown D.follows limits debuggee) fault start self.new.adapter.debuggee) }
+            → StopsOn D.shown D.follows (Delivering D.follows start) fault self.new.adapter.debuggee) }
     {
         let mut up = Vec::new(alloc);
         let mut at = 0;
@@ -257,7 +257,7 @@ impl<D: Debuggee + Drop> Drive<D> {
         ensures limits { OnOk result (self.new.adapter.session.limits ≡ self.old.adapter.session.limits) }
         ensures stops { IfErr result (λ fault. (limits : Settings) (debuggee : D) (start : World D)
             → HasDelivered (driven_by D.shown D.follows limits debuggee) start (both_of self.old) rest.now down.old.items
-            → 0 < length rest.now → StopsDelivering (driven_by D.shown D.follows limits debuggee) fault start self.new.adapter.debuggee) }
+            → 0 < length rest.now → StopsOn D.shown D.follows (Delivering D.follows start) fault self.new.adapter.debuggee) }
     {
         // Laws for the proof: both ends agree, and bytes are frames in one way only.
         each_schedule_agrees::<D>();
@@ -291,7 +291,7 @@ impl<D: Debuggee + Drop> Drive<D> {
         ensures limits { OnOk result (self.new.adapter.session.limits ≡ self.old.adapter.session.limits) }
         ensures stops { IfErr result (λ fault. (limits : Settings) (debuggee : D) (start : World D)
             → HasDelivered (driven_by D.shown D.follows limits debuggee) start (both_of self.old) up.now []
-            → StopsDelivering (driven_by D.shown D.follows limits debuggee) fault start self.new.adapter.debuggee) }
+            → StopsOn D.shown D.follows (Delivering D.follows start) fault self.new.adapter.debuggee) }
     {
         let mut down = Vec::new(alloc);
         let mut at = 0;
@@ -312,7 +312,7 @@ impl<D: Debuggee + Drop> Drive<D> {
         ensures less { OnOk result (left_to_do self.new.client self.new.adapter ≤ left_to_do self.old.client self.old.adapter) }
         ensures stops { IfErr result (λ fault. (limits : Settings) (debuggee : D) (start : World D)
             → HasDelivered (driven_by D.shown D.follows limits debuggee) start (both_of self.old) [] first.items
-            → StopsDelivering (driven_by D.shown D.follows limits debuggee) fault start self.new.adapter.debuggee) }
+            → StopsOn D.shown D.follows (Delivering D.follows start) fault self.new.adapter.debuggee) }
     {
         // Laws for the proof: both ends agree, and bytes are frames in one way only.
         each_schedule_agrees::<D>();
@@ -339,7 +339,7 @@ impl<D: Debuggee + Drop> Drive<D> {
             → HasDone (driven_by D.shown D.follows limits debuggee) (DoesSend D.follows call.now) start (both_of self.new)) }
         ensures stops { IfErr result (λ fault. (limits : Settings) (debuggee : D) (start : World D)
             → IsQuiet (driven_by D.shown D.follows limits debuggee) (both_of self.old) start
-            → StopsSend (driven_by D.shown D.follows limits debuggee) line call.now fault start self.new.adapter.debuggee) }
+            → StopsOrder D.shown D.follows line (Order.Send call.now) fault start self.new.adapter.debuggee) }
     {
         // Laws for the proof: both ends agree, and bytes are frames in one way only.
         each_schedule_agrees::<D>();
@@ -378,7 +378,7 @@ impl<D: Debuggee + Drop> Drive<D> {
             → HasDone (driven_by D.shown D.follows limits debuggee) (DoesAnswer D.follows terminal) start (both_of self.new)) }
         ensures stops { IfErr result (λ fault. (limits : Settings) (debuggee : D) (start : World D)
             → IsQuiet (driven_by D.shown D.follows limits debuggee) (both_of self.old) start
-            → StopsAnswer (driven_by D.shown D.follows limits debuggee) line terminal fault start self.new.adapter.debuggee) }
+            → StopsOrder D.shown D.follows line (Order.Answer terminal) fault start self.new.adapter.debuggee) }
     {
         // Laws for the proof: both ends agree, and bytes are frames in one way only.
         each_schedule_agrees::<D>();
@@ -414,7 +414,7 @@ impl<D: Debuggee + Drop> Drive<D> {
         ensures less { IfOk result (λ more. more ≡ true → left_to_do self.new.client self.new.adapter < left_to_do self.old.client self.old.adapter) }
         ensures stops { IfErr result (λ fault. (limits : Settings) (debuggee : D) (start : World D)
             → IsQuiet (driven_by D.shown D.follows limits debuggee) (both_of self.old) start
-            → StopsOrder (driven_by D.shown D.follows limits debuggee) Order.Turn fault start self.new.adapter.debuggee) }
+            → StopsOn D.shown D.follows (Reaches D.shown D.follows Order.Turn start) fault self.new.adapter.debuggee) }
     {
         // Laws for the proof: both ends agree, and bytes are frames in one way only.
         each_schedule_agrees::<D>();
@@ -446,7 +446,7 @@ impl<D: Debuggee + Drop> Drive<D> {
             → HasDone (driven_by D.shown D.follows limits debuggee) (HasPolled D.follows last) start (both_of self.new)) }
         ensures stops { IfErr result (λ fault. (limits : Settings) (debuggee : D) (start : World D)
             → IsQuiet (driven_by D.shown D.follows limits debuggee) (both_of self.old) start
-            → StopsOrder (driven_by D.shown D.follows limits debuggee) Order.Poll fault start self.new.adapter.debuggee) }
+            → StopsOn D.shown D.follows (Reaches D.shown D.follows Order.Poll start) fault self.new.adapter.debuggee) }
     {
         // Laws for the proof: both ends agree, and bytes are frames in one way only.
         each_schedule_agrees::<D>();
@@ -478,7 +478,7 @@ impl<D: Debuggee + Drop> Drive<D> {
             → HasDone (driven_by D.shown D.follows limits debuggee) (λ old new. RunsTo D.shown D.follows old to_take new) start (both_of self.new)) }
         ensures stops { IfErr result (λ fault. (limits : Settings) (debuggee : D) (start : World D)
             → IsQuiet (driven_by D.shown D.follows limits debuggee) (both_of self.old) start
-            → StopsOrder (driven_by D.shown D.follows limits debuggee) Order.Run fault start self.new.adapter.debuggee) }
+            → StopsOn D.shown D.follows (Reaches D.shown D.follows Order.Run start) fault self.new.adapter.debuggee) }
     {
         self.turns(alloc)?;
         self.polls(alloc)?;
@@ -493,7 +493,7 @@ impl<D: Debuggee + Drop> Drive<D> {
             → HasDone (driven_by D.shown D.follows limits debuggee) (λ old new. RunsTo D.shown D.follows old (to_poll 0) new) start (both_of self.new)) }
         ensures stops { IfErr result (λ fault. (limits : Settings) (debuggee : D) (start : World D)
             → IsQuiet (driven_by D.shown D.follows limits debuggee) (both_of self.old) start
-            → StopsOrder (driven_by D.shown D.follows limits debuggee) Order.Run fault start self.new.adapter.debuggee) }
+            → StopsOn D.shown D.follows (Reaches D.shown D.follows Order.Run start) fault self.new.adapter.debuggee) }
     {
         // Laws for the proof: both ends agree, and bytes are frames in one way only.
         each_schedule_agrees::<D>();
@@ -514,7 +514,7 @@ impl<D: Debuggee + Drop> Drive<D> {
             → HasDone (driven_by D.shown D.follows limits debuggee) (λ old new. RunsTo D.shown D.follows old to_take new) start (both_of self.new)) }
         ensures stops { IfErr result (λ fault. (limits : Settings) (debuggee : D) (start : World D)
             → HasDone (driven_by D.shown D.follows limits debuggee) (λ old new. RunsTo D.shown D.follows old (to_poll 0) new) start (both_of self.old)
-            → StopsOrder (driven_by D.shown D.follows limits debuggee) Order.Run fault start self.new.adapter.debuggee) }
+            → StopsOn D.shown D.follows (Reaches D.shown D.follows Order.Run start) fault self.new.adapter.debuggee) }
     {
         // Laws for the proof: both ends agree, and bytes are frames in one way only.
         each_schedule_agrees::<D>();

@@ -125,9 +125,6 @@ asks-fresh : (o : Option Ask) (d : AdapterModel) → d.phase ≡ AdapterFresh �
 asks-fresh None d e = refl
 asks-fresh (Some a) d e = rw e refl
 
-same-begins : (n : ℕ) (w : World) (m : Made) → m ≡ record { adapter = w.adapter; outs = [] } → Begins w → Begins (after_adapter w m)
-same-begins n w m e g = subst (λ (x : Made). Begins (after_adapter w x)) (sym e) (begins-after_adapter n w w.up (record { adapter = w.adapter; outs = [] }) g (λ e. (g.fresh e).1) (λ e. ((g.first e).2, tt)))
-
 asking-begins : (n : ℕ) (w : World) → Agree n w → Begins w → Begins (after_adapter w (after_asking_turn (oldest w.adapter.kept) w.adapter))
 asking-begins n w a g =
     begins-after_adapter n w w.up (after_asking_turn (oldest w.adapter.kept) w.adapter) g
@@ -167,10 +164,6 @@ poll-begins n w x g =
     (λ e. (elim (g.first e).2 [ inl p ↦ inl (after_happening-fresh w.adapter.phase x p) | inr z ↦ inr z ], good-events (events_after_happening w.adapter.phase x)))
 
 -- a request that comes is the initialize, and is kept
-only-first : (xs : List Ask) (b : Bool) (m : ℕ) → count is_initialize xs ≤ count (λ a. true) xs → one_if b + (count is_initialize xs + m) ≡ 1 → 1 + (count (λ a. true) xs + m) ≡ 1 → b ≡ true
-only-first xs true m l h k = refl
-only-first xs false m l h k = absurd (omega arith)
-
 initialize-below : (xs : List Ask) → count is_initialize xs ≤ count (λ a. true) xs
 initialize-below [] = omega arith
 initialize-below (x ∷ xs) = cases (is_initialize x) (initialize-below xs)

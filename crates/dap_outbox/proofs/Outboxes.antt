@@ -125,10 +125,6 @@ writes-behind most start items after now old new d e h is u l left reads =
     (ap (λ (xs : List ℕ). drop start xs) is ∙ (drop-append-le start items _ h ∙ ap (λ (x : OutboxState). x.bytes ++ frame_of (canon (message_of (now.numbers.used + 1) d))) e))
     u l left reads
 
--- what it had before stays
-pub front-stays : (start : ℕ) (items after more : List ℕ) → start ≤ length items → after ≡ items ++ more → take start after ≡ take start items
-front-stays start items after more h is = ap (λ (xs : List ℕ). take start xs) is ∙ take-append-le start items more h
-
 -- a text behind what a buffer had, and its frame
 pub framed : (items text after body : List ℕ) (end : ℕ) → end ≡ length items → text ≡ items ++ body → after ≡ take end text ++ frame_of (drop end text) → after ≡ items ++ frame_of body
 framed items text after body end is t e =

@@ -1,13 +1,13 @@
 //! A reader of messages.
-ghost use Rattle.std.specs.Prelude.{◌≡◌, ◌≢◌, ℕ, List, ◌++◌, ◌<◌, ◌≤◌, [], length, max, take, option_to_list, IfOk, IfErr, OnOk, OnErr, IfSome, IfNone, Some, None, Err};
-ghost use Rattle.dap_frame.specs.Ends.{EndsWith};
-ghost use Rattle.dap_frame.specs.Intake.{IsReady, IsUnderWay, StandsFor as StandsForStream};
+ghost use Rattle.std.specs.Prelude.{◌≡◌, ◌≢◌, ◌<◌, ◌≤◌, [], length, max, IfOk, IfErr, OnOk, OnErr, IfSome, IfNone, Some, None};
+ghost use Rattle.dap_frame.specs.Closed.{StaysClosed};
+ghost use Rattle.dap_frame.specs.Ends.{EachEndsWith};
+ghost use Rattle.dap_frame.specs.Intake.{IsReady, IsUnderWay};
 ghost use Rattle.dap_frame.specs.Settings.{bounds_of};
 ghost use Rattle.dap_frame.specs.declared.frames.End.{End};
 ghost use Rattle.dap_envelope.specs.Meaning.{Msg};
-ghost use Rattle.dap_envelope.specs.declared.message.Message.{Message};
 ghost use Rattle.dap_reader.specs.declared.fault.ReadFault.{ReadFault};
-ghost use Rattle.dap_reader.specs.Reader.{Advances, Gives, IsRefused, IsUnread, StandsFor};
+ghost use Rattle.dap_reader.specs.Reader.{Advances, Gives, GivesBy, GoesOnBy, IsRefused, IsUntaken, IsUnread, ShortensWith, StandsFor};
 
 use crate::fault::ReadFault;
 use dap_envelope::{BodyFault, Message, read_message_with};
@@ -68,18 +68,18 @@ impl MessageReader {
     /// memory is refused once a body is whole: a piece that makes no frame whole takes none. Then nothing is held, and each
     /// later call answers it again.
     pub fn next(&mut self, alloc: Global, piece: &[u8]) -> Result<Next, ReadFault>
-        ensures gives { IfOk result (λ next. Gives self.old.intake self.new.intake piece.now next.used next.message) }
-        ensures stands { IfOk result (λ next. (s : List ℕ) (ms : List Message) → StandsFor self.old s ms → StandsFor self.new (s ++ take next.used piece.now) (ms ++ option_to_list next.message)) }
+        ensures gives { IfOk result (GivesBy self.old self.new piece.now) }
+        ensures stands { IfOk result (GoesOnBy self.old self.new piece.now) }
         ensures progress { IfOk result (λ next. 0 < length piece.now → 0 < next.used) }
         ensures within { IfOk result (λ next. next.used ≤ length piece.now) }
         ensures bounds { self.new.intake.bounds ≡ self.old.intake.bounds }
         ensures open { OnOk result (self.new.fault ≡ None) }
 
         // Why it is refused; then nothing is held.
-        ensures refused { IfErr result (λ fault. self.old.fault ≡ None → IsRefused self.old.intake piece.now fault) }
+        ensures refused { IfErr result (IsUntaken self.old piece.now) }
         ensures held { OnErr result (self.new.intake.held ≡ []) }
         ensures latches { IfErr result (λ fault. self.new.fault ≡ Some fault) }
-        ensures latched { IfSome self.old.fault (λ fault. (result ≡ Err fault) × (self.new ≡ self.old)) }
+        ensures latched { StaysClosed self.old.fault result self.old self.new }
     {
         if let Some(fault) = self.fault {
             return Err(fault);
@@ -106,18 +106,18 @@ impl MessageReader {
         alloc: Global,
         piece: &mut &[u8],
     ) -> Result<Option<Message>, ReadFault>
-        ensures advances { IfOk result (λ message. Advances self.old self.new piece.old.now piece.new.now message) }
-        ensures shorter { IfOk result (λ message. IfSome message (λ m. length piece.new.now < length piece.old.now)) }
+        ensures advances { IfOk result (Advances self.old self.new piece.old.now piece.new.now) }
+        ensures shorter { IfOk result (ShortensWith piece.old.now piece.new.now) }
         ensures used { IfOk result (λ message. IfNone message (piece.new.now ≡ [])) }
         ensures bounds { self.new.intake.bounds ≡ self.old.intake.bounds }
         ensures open { OnOk result (self.new.fault ≡ None) }
 
         // Why it is refused; then nothing is held.
-        ensures refused { IfErr result (λ fault. self.old.fault ≡ None → IsRefused self.old.intake piece.old.now fault) }
+        ensures refused { IfErr result (IsUntaken self.old piece.old.now) }
         ensures piece { OnErr result (piece.new.now ≡ piece.old.now) }
         ensures held { OnErr result (self.new.intake.held ≡ []) }
         ensures latches { IfErr result (λ fault. self.new.fault ≡ Some fault) }
-        ensures latched { IfSome self.old.fault (λ fault. (result ≡ Err fault) × (self.new ≡ self.old)) }
+        ensures latched { StaysClosed self.old.fault result self.old self.new }
     {
         if let Some(fault) = self.fault {
             return Err(fault);
@@ -147,7 +147,7 @@ impl MessageReader {
     /// How the stream ends, if no more of it comes: `Clean` behind a whole frame, `Truncated` within one, `Refused` after a
     /// fault.
     pub fn finish(&self) -> End
-        ensures ends { (s : List ℕ) (xs : List (List ℕ)) (rest : List ℕ) → StandsForStream self.now.intake s xs rest → EndsWith self.now.intake rest result }
+        ensures ends { EachEndsWith self.now.intake result }
         ensures open { self.now.fault ≡ None → result ≢ End.Refused }
     {
         let _ = &self.fault;

@@ -1,4 +1,4 @@
-use Rattle.std.proofs.Common.{ℕ, List, [], ◌∷◌, refl, sym, subst, ◌∙◌}
+use Rattle.std.proofs.Common.{ℕ, List, [], ◌∷◌, refl, sym, subst, ◌∙◌, inl, inr}
 use Rattle.std.proofs.lemmas.Result.{err_from_is_err_and}
 use Rattle.dap_check.specs.declared.line.Side.TheVariants.{Client}
 use Rattle.dap_client.specs.TerminalResponse.{after_terminal_response, next_terminal_response}
@@ -21,7 +21,7 @@ returns-clause-answered g c = λ limits debuggee start q.
 
 pub returns-in_default-clause-stops : goal.returns-in_default-clause-stops
 returns-in_default-clause-stops g c = λ limits debuggee start q.
-    (refl, none_to_answer c.frames_keep_their_laws.ensures (driven_by g.D.Debuggee.shown g.D.Debuggee.follows limits debuggee) c.each_schedule_agrees.ensures.agrees (both_of c.args.self.now) start q (sym c.in_default.ensures.oldest), q.at.adapter_at.debuggee_is)
+    inl ((refl, c.args.terminal, refl, none_to_answer c.frames_keep_their_laws.ensures (driven_by g.D.Debuggee.shown g.D.Debuggee.follows limits debuggee) c.each_schedule_agrees.ensures.agrees (both_of c.args.self.now) start q (sym c.in_default.ensures.oldest)), q.at.adapter_at.debuggee_is)
 
 pub returns-in-Err-clause-stops : goal.returns-in-Err-clause-stops
 returns-in-Err-clause-stops g c = λ limits debuggee start q.
@@ -30,7 +30,7 @@ returns-in-Err-clause-stops g c = λ limits debuggee start q.
 pub returns-in-Err-write_lines-clause-stops : goal.returns-in-Err-write_lines-clause-stops
 returns-in-Err-write_lines-clause-stops g c = λ limits debuggee start q.
     let framed = answer_framed c.frames_keep_their_laws.ensures (driven_by g.D.Debuggee.shown g.D.Debuggee.follows limits debuggee) c.each_schedule_agrees.ensures.agrees (both_of c.args.self.now) c.deref.result.now start c.in-Some.request_seq c.args.terminal q c.in-Ok.ensures.reads_back (c.deref.ensures.value ∙ c.in-Ok.ensures.bytes) in
-    rw (memory_alone c.in-Err-write_lines.fault c.unwritten.result c.args.self.now.reader c.deref.result.now c.in-Err-write_lines.ensures.unwritten c.unwritten.ensures framed) tt
+    rw (memory_alone c.in-Err-write_lines.fault c.unwritten.result c.args.self.now.reader c.deref.result.now c.in-Err-write_lines.ensures.unwritten c.unwritten.ensures framed) (inr tt)
 
 pub returns-in_err-down-clause-stops : goal.returns-in_err-down-clause-stops
 returns-in_err-down-clause-stops g c =

@@ -1,4 +1,4 @@
-use Rattle.std.proofs.Common.{ℕ, List, [], ◌∷◌, sym, subst, ◌∙◌}
+use Rattle.std.proofs.Common.{ℕ, List, [], ◌∷◌, sym, subst, ◌∙◌, inr}
 use Rattle.std.proofs.lemmas.Result.{err_from_is_err_and}
 use Rattle.dap_check.specs.declared.line.Side.TheVariants.{Client}
 use Rattle.dap_client.specs.Sending.{after_send, next_message}
@@ -21,7 +21,7 @@ returns-clause-sent g c = λ limits debuggee start q.
 pub returns-in-Err-write_lines-clause-stops : goal.returns-in-Err-write_lines-clause-stops
 returns-in-Err-write_lines-clause-stops g c = λ limits debuggee start q.
     let framed = sent_framed c.frames_keep_their_laws.ensures (driven_by g.D.Debuggee.shown g.D.Debuggee.follows limits debuggee) c.each_schedule_agrees.ensures.agrees (both_of c.args.self.now) c.deref.result.now start c.args.call.now q c.in-Ok.ensures.reads_back (c.deref.ensures.value ∙ c.in-Ok.ensures.bytes) in
-    rw (memory_alone c.in-Err-write_lines.fault c.unwritten.result c.args.self.now.reader c.deref.result.now c.in-Err-write_lines.ensures.unwritten c.unwritten.ensures framed) tt
+    rw (memory_alone c.in-Err-write_lines.fault c.unwritten.result c.args.self.now.reader c.deref.result.now c.in-Err-write_lines.ensures.unwritten c.unwritten.ensures framed) (inr tt)
 
 pub returns-in_err-down-clause-stops : goal.returns-in_err-down-clause-stops
 returns-in_err-down-clause-stops g c =
