@@ -77,8 +77,8 @@ frames_of_null _ = refl
 
 frames_told_of : (given : GatheredReferences) (found : Option Command) (body : Option Data) → AreGivenBy given (or_null body) → gathered_frames_for found given ≡ frames_for found body
 frames_told_of given None body are = refl
-frames_told_of given (Some x) None are = ap (as_frames (given_objects x)) (are (given_objects x)) ∙ frames_of_null x
-frames_told_of given (Some x) (Some d) are = ap (as_frames (given_objects x)) (are (given_objects x))
+frames_told_of given (Some x) None are = ap (as_frames (given_objects x)) (are.each (given_objects x)) ∙ frames_of_null x
+frames_told_of given (Some x) (Some d) are = ap (as_frames (given_objects x)) (are.each (given_objects x))
 
 frames_alike : (given : GatheredReferences) (kind : Kind) → AreGivenIn given kind → gathered_frames given (bare_kind kind) ≡ frames_of_kind kind
 frames_alike given (Request c arguments) are = refl
@@ -95,8 +95,8 @@ holders_of_null _ = refl
 
 holders_told_of : (given : GatheredReferences) (found : Option Command) (body : Option Data) → AreGivenBy given (or_null body) → gathered_holders_for found given ≡ holders_for found body
 holders_told_of given None body are = refl
-holders_told_of given (Some x) None are = ap (as_holders (given_objects x)) (are (given_objects x)) ∙ holders_of_null x
-holders_told_of given (Some x) (Some d) are = ap (as_holders (given_objects x)) (are (given_objects x))
+holders_told_of given (Some x) None are = ap (as_holders (given_objects x)) (are.each (given_objects x)) ∙ holders_of_null x
+holders_told_of given (Some x) (Some d) are = ap (as_holders (given_objects x)) (are.each (given_objects x))
 
 holders_alike : (given : GatheredReferences) (kind : Kind) → AreGivenIn given kind → gathered_holders given (bare_kind kind) ≡ holders_of_kind kind
 holders_alike given (Request c arguments) are = refl

@@ -41,21 +41,24 @@ module _ (old new : GatheredReferences) (found : Members) (are : AreGivenBy old 
   -- of objects at another member
   stays : (key : List ℕ) (d : Data) (objects : GivenObjects) → member_of objects ≢ Some key → Same objects → Given key d objects
   stays key d gives.Nothing e same = refl
-  stays key d gives.Frames e same = same ∙ are gives.Frames ∙ sym (ap (items_in (codes "id") 0) (get_member-put_other (codes "stackFrames") key d found (λ is. e (ap Some is))))
-  stays key d gives.Scopes e same = same ∙ are gives.Scopes ∙ sym (ap (items_in (codes "variablesReference") 1) (get_member-put_other (codes "scopes") key d found (λ is. e (ap Some is))))
-  stays key d gives.Variables e same = same ∙ are gives.Variables ∙ sym (ap (items_in (codes "variablesReference") 1) (get_member-put_other (codes "variables") key d found (λ is. e (ap Some is))))
-  stays key d gives.Value e same = same ∙ are gives.Value ∙ sym (ap own_in (get_member-put_other (codes "variablesReference") key d found (λ is. e (ap Some is))))
+  stays key d gives.Frames e same = same ∙ are.each gives.Frames ∙ sym (ap (items_in (codes "id") 0) (get_member-put_other (codes "stackFrames") key d found (λ is. e (ap Some is))))
+  stays key d gives.Scopes e same = same ∙ are.each gives.Scopes ∙ sym (ap (items_in (codes "variablesReference") 1) (get_member-put_other (codes "scopes") key d found (λ is. e (ap Some is))))
+  stays key d gives.Variables e same = same ∙ are.each gives.Variables ∙ sym (ap (items_in (codes "variablesReference") 1) (get_member-put_other (codes "variables") key d found (λ is. e (ap Some is))))
+  stays key d gives.Value e same = same ∙ are.each gives.Value ∙ sym (ap own_in (get_member-put_other (codes "variablesReference") key d found (λ is. e (ap Some is))))
 
   each : (key : List ℕ) (d : Data) → Given key d gives.Frames → Given key d gives.Scopes → Given key d gives.Variables → Given key d gives.Value → AreGivenBy new (object (put key d found))
-  each key d f s v o gives.Nothing = refl
-  each key d f s v o gives.Frames = f
-  each key d f s v o gives.Scopes = s
-  each key d f s v o gives.Variables = v
-  each key d f s v o gives.Value = o
+  each key d f s v o = record { each = λ objects. by objects }
+    where
+      by : (objects : GivenObjects) → Given key d objects
+      by gives.Nothing = refl
+      by gives.Frames = f
+      by gives.Scopes = s
+      by gives.Variables = v
+      by gives.Value = o
 
   -- all of them
   pub all_stay : (key : List ℕ) (d : Data) → ((objects : GivenObjects) → member_of objects ≢ Some key) → ((objects : GivenObjects) → Same objects) → AreGivenBy new (object (put key d found))
-  all_stay key d e same objects = stays key d objects (e objects) (same objects)
+  all_stay key d e same = record { each = λ objects. stays key d objects (e objects) (same objects) }
 
   -- the numbers of a list
   abbrev Taken : GivenObjects → Items → Type 0
@@ -89,8 +92,11 @@ module _ (old new : GatheredReferences) (found : Members) (are : AreGivenBy old 
 
 -- nothing is gathered at first
 pub none_yet : (given : GatheredReferences) → AreGivenBy given null → AreGivenBy given (object no_members)
-none_yet given are gives.Nothing = refl
-none_yet given are gives.Frames = are gives.Frames
-none_yet given are gives.Scopes = are gives.Scopes
-none_yet given are gives.Variables = are gives.Variables
-none_yet given are gives.Value = are gives.Value
+none_yet given are = record { each = λ objects. by objects }
+  where
+    by : (objects : GivenObjects) → gathered objects given ≡ numbers_given objects (object no_members)
+    by gives.Nothing = refl
+    by gives.Frames = are.each gives.Frames
+    by gives.Scopes = are.each gives.Scopes
+    by gives.Variables = are.each gives.Variables
+    by gives.Value = are.each gives.Value

@@ -13,6 +13,6 @@ gathered gives.Scopes given = given.scopes.items
 gathered gives.Variables given = given.variables.items
 gathered gives.Value given = given.own.items
 
--- of all objects the same as the walker gives over the body
-abbrev pub AreGivenBy : GatheredReferences → Data → Type 0
-AreGivenBy given body = (objects : GivenObjects) → gathered objects given ≡ numbers_given objects body
+-- the same as the walker gives over the body
+pub record AreGivenBy (given : GatheredReferences) (body : Data) : Type 0 where
+  pub each : (objects : GivenObjects) → gathered objects given ≡ numbers_given objects body

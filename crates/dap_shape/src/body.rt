@@ -57,21 +57,27 @@ fn take_member(
         × ((ms : Members) → AreKept ms (map row_seen rows.now) seen.old → AreKept (put name.now d ms) (map row_seen rows.now) seen.new)) }
     ensures shorter { OnOk result (length reader.new < length reader.old) }
 {
-    let objects = GivenObjects::at_member(name);
-    match objects {
+    match GivenObjects::at_member(name) {
         GivenObjects::Nothing => {
             let _ = member(reader, rows, seen, name, DEPTH)?;
             Ok(())
         }
-        GivenObjects::Frames => list_of_row(reader, rows, seen, name, objects, &mut given.frames),
-        GivenObjects::Scopes => list_of_row(reader, rows, seen, name, objects, &mut given.scopes),
+        GivenObjects::Frames => {
+            let objects = GivenObjects::Frames;
+            list_of_row(reader, rows, seen, name, objects, &mut given.frames)
+        }
+        GivenObjects::Scopes => {
+            let objects = GivenObjects::Scopes;
+            list_of_row(reader, rows, seen, name, objects, &mut given.scopes)
+        }
         GivenObjects::Variables => {
+            let objects = GivenObjects::Variables;
             list_of_row(reader, rows, seen, name, objects, &mut given.variables)
         }
         GivenObjects::Value => {
             given.own.clear();
             let passed = member(reader, rows, seen, name, DEPTH)?;
-            keep(&mut given.own, objects.range(), whole(passed))
+            keep(&mut given.own, GivenObjects::Value.range(), whole(passed))
         }
     }
 }
