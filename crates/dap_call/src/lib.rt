@@ -21,8 +21,8 @@ pub use call::{
 };
 pub use calls::read_call;
 pub use dap_command::{
-    Capabilities, Command, FRAMES, FramesGiven, Gate, GatheredReferences, GivenObjects, HOLDERS,
-    HoldersGiven, Key, NamedObject, SourceKey, frames_given, holders_given,
+    Capabilities, Command, Gate, GatheredReferences, GivenObjects, Key, NamedObject, NumbersGiven,
+    SourceKey, frames_given, holders_given,
 };
 pub use objects::CallObject;
 pub use plain::MAX_ARGUMENTS;

@@ -7,8 +7,9 @@ use Rattle.std.specs.Ordering.{nat_cmp}
 use Rattle.std.proofs.lemmas.List.Sums.{sum_by_push}
 use Rattle.serde_json.specs.Data.{Data, null}
 use Rattle.dap_command.specs.Command.{command_named}
-use Rattle.dap_command.specs.GivenReferences.{frame_ids, holders_of}
+use Rattle.dap_command.specs.GivenReferences.{frames_of, holders_of, as_frames, as_holders}
 use Rattle.dap_command.specs.Gathered.{AreGivenBy}
+use Rattle.dap_command.specs.Objects.{given_objects}
 use Rattle.dap_envelope.specs.ResponseReferences.{or_null, AreGivenIn}
 use Rattle.dap_command.specs.declared.gathering.GatheredReferences.{GatheredReferences}
 use Rattle.dap_command.specs.declared.capabilities.Capabilities.{Capabilities}
@@ -17,12 +18,12 @@ use Rattle.dap_command.specs.declared.command.Command.TheVariants as command
 use Rattle.dap_envelope.specs.declared.message.Message.{Message}
 use Rattle.dap_envelope.specs.declared.message.Kind.{Kind}
 use Rattle.dap_envelope.specs.declared.message.Kind.TheVariants.{Request, Response, Event, Other}
-use Rattle.dap_check.specs.PrivateBare.{is_looked_at, bare_kind, bare_line, IsReadBody, IsReadAs, gathered_frames, gathered_holders_for, gathered_holders, gathers_frame, gathers_holder}
+use Rattle.dap_check.specs.PrivateBare.{is_looked_at, bare_kind, bare_line, IsReadBody, IsReadAs, gathered_frames_for, gathered_frames, gathered_holders_for, gathered_holders, gathers_frame, gathers_holder}
 use Rattle.dap_check.specs.Kept.{AreCounts, ArePending, ArePhases, AreReferences, reference_after, IsFirst, Begins, AreWaiting, open_at, waiting_after, IsOffered, offer_after, IsSeen}
 use Rattle.dap_check.specs.Findings.{is_open_as, request_of}
 use Rattle.dap_check.specs.Legal.{all_rules, least_broken}
 use Rattle.dap_check.specs.Lines.{other_side, is_among, is_of, asks, answers, succeeds}
-use Rattle.dap_check.specs.Rules.{frames_in, initialize, disconnect, offered_since, frames_of_kind, holders_of_kind, holders_for, contains_number, gives_frame, gives_holder, resumes, naming_frames, naming_holders, is_broken}
+use Rattle.dap_check.specs.Rules.{frames_for, initialize, disconnect, offered_since, frames_of_kind, holders_of_kind, holders_for, contains_number, gives_frame, gives_holder, resumes, naming_frames, naming_holders, is_broken}
 use Rattle.dap_check.specs.Since.{first_since, last_since, Past}
 use Rattle.dap_check.specs.declared.line.Form.{Form}
 use Rattle.dap_check.specs.declared.line.Form.TheVariants.{Whole, Bare}
@@ -70,13 +71,18 @@ judged_alike any_seq _ earlier number side seq (Other tag) unseen = refl
 
 -- ---- what it gives
 
-frames_of_null : (body : Option Data) → frame_ids (or_null body) ≡ frames_in body
-frames_of_null None = refl
-frames_of_null (Some d) = refl
+frames_of_null : (x : Command) → frames_of x null ≡ []
+frames_of_null command.StackTrace = refl
+frames_of_null _ = refl
+
+frames_told_of : (given : GatheredReferences) (found : Option Command) (body : Option Data) → AreGivenBy given (or_null body) → gathered_frames_for found given ≡ frames_for found body
+frames_told_of given None body are = refl
+frames_told_of given (Some x) None are = ap (as_frames (given_objects x)) (are.each (given_objects x)) ∙ frames_of_null x
+frames_told_of given (Some x) (Some d) are = ap (as_frames (given_objects x)) (are.each (given_objects x))
 
 frames_alike : (given : GatheredReferences) (kind : Kind) → AreGivenIn given kind → gathered_frames given (bare_kind kind) ≡ frames_of_kind kind
 frames_alike given (Request c arguments) are = refl
-frames_alike given (Response request_seq success c message body) are = ap (λ frames. cond (success && bytes_eq c (codes "stackTrace")) frames []) (are.frames ∙ frames_of_null body)
+frames_alike given (Response request_seq success c message body) are = ap (λ frames. cond success frames []) (frames_told_of given (command_named c) body are)
 frames_alike given (Event event body) are = refl
 frames_alike given (Other tag) are = refl
 
@@ -87,14 +93,14 @@ holders_of_null command.Evaluate = refl
 holders_of_null command.SetVariable = refl
 holders_of_null _ = refl
 
-told_of : (given : GatheredReferences) (found : Option Command) (body : Option Data) → AreGivenBy given (or_null body) → gathered_holders_for found given ≡ holders_for found body
-told_of given None body are = refl
-told_of given (Some x) None are = are.holders x ∙ holders_of_null x
-told_of given (Some x) (Some d) are = are.holders x
+holders_told_of : (given : GatheredReferences) (found : Option Command) (body : Option Data) → AreGivenBy given (or_null body) → gathered_holders_for found given ≡ holders_for found body
+holders_told_of given None body are = refl
+holders_told_of given (Some x) None are = ap (as_holders (given_objects x)) (are.each (given_objects x)) ∙ holders_of_null x
+holders_told_of given (Some x) (Some d) are = ap (as_holders (given_objects x)) (are.each (given_objects x))
 
 holders_alike : (given : GatheredReferences) (kind : Kind) → AreGivenIn given kind → gathered_holders given (bare_kind kind) ≡ holders_of_kind kind
 holders_alike given (Request c arguments) are = refl
-holders_alike given (Response request_seq success c message body) are = ap (λ holders. cond success holders []) (told_of given (command_named c) body are)
+holders_alike given (Response request_seq success c message body) are = ap (λ holders. cond success holders []) (holders_told_of given (command_named c) body are)
 holders_alike given (Event event body) are = refl
 holders_alike given (Other tag) are = refl
 

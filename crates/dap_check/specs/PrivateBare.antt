@@ -1,7 +1,9 @@
 -- Lines that are read without what no rule looks at. Only private clauses and proofs cite this file.
-use Rattle.std.specs.Prelude.{◌≡◌, ℕ, List, [], ◌∷◌, Bool, false, ◌&&◌, ◌||◌, codes, bytes_eq, if◌then◌else◌, Option, Some, None}
+use Rattle.std.specs.Prelude.{◌≡◌, ℕ, List, [], ◌∷◌, Bool, false, ◌&&◌, ◌||◌, codes, if◌then◌else◌, Option, Some, None}
 use Rattle.dap_command.specs.Command.{command_named}
-use Rattle.dap_command.specs.Gathered.{given_frames, given_holders}
+use Rattle.dap_command.specs.Gathered.{gathered}
+use Rattle.dap_command.specs.GivenReferences.{as_frames, as_holders}
+use Rattle.dap_command.specs.Objects.{given_objects}
 use Rattle.dap_envelope.specs.ResponseReferences.{AreGivenIn}
 use Rattle.dap_envelope.specs.Refusals.{Bad}
 use Rattle.dap_command.specs.declared.command.Command.{Command}
@@ -52,15 +54,19 @@ IsReadAs Whole given read real = read ≡ real
 IsReadAs Bare given read real = (read ≡ bare_line real) × (is_looked_at real.message.kind ≡ false) × AreGivenIn given real.message.kind
 
 -- the numbers that were gathered, as far as they count for such a message
-abbrev pub gathered_frames : GatheredReferences → Kind → List ℕ
-gathered_frames given (Request command arguments) = []
-gathered_frames given (Response request_seq success command message body) = if success && bytes_eq command (codes "stackTrace") then given_frames given else []
-gathered_frames given (Event event body) = []
-gathered_frames given (Other tag) = []
+abbrev pub gathered_frames_for : Option Command → GatheredReferences → List ℕ
+gathered_frames_for None given = []
+gathered_frames_for (Some command) given = as_frames (given_objects command) (gathered (given_objects command) given)
 
 abbrev pub gathered_holders_for : Option Command → GatheredReferences → List ℕ
 gathered_holders_for None given = []
-gathered_holders_for (Some command) given = given_holders command given
+gathered_holders_for (Some command) given = as_holders (given_objects command) (gathered (given_objects command) given)
+
+abbrev pub gathered_frames : GatheredReferences → Kind → List ℕ
+gathered_frames given (Request command arguments) = []
+gathered_frames given (Response request_seq success command message body) = if success then gathered_frames_for (command_named command) given else []
+gathered_frames given (Event event body) = []
+gathered_frames given (Other tag) = []
 
 abbrev pub gathered_holders : GatheredReferences → Kind → List ℕ
 gathered_holders given (Request command arguments) = []

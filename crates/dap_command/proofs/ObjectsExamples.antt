@@ -2,7 +2,7 @@
 use Rattle.std.proofs.Common.{◌≡◌, [], ◌∷◌, codes, true, false, Some, None, refl}
 use Rattle.std.specs.Prelude.{map, filter}
 use Rattle.dap_command.specs.Command.{name_of, all_commands}
-use Rattle.dap_command.specs.Objects.{named_object, given_objects, has_body, names_frame, names_holder, commands_that_name, key_of}
+use Rattle.dap_command.specs.Objects.{named_object, given_objects, has_body, names_frame, names_holder, commands_that_name, key_of, member_of, number_key_of, least_of, are_frames}
 use Rattle.dap_command.specs.declared.command.Command.TheVariants as command
 use Rattle.dap_command.specs.declared.key.Key.TheVariants.{ThreadId, FrameId}
 use Rattle.dap_command.specs.declared.objects.NamedObject.TheVariants as names
@@ -26,6 +26,16 @@ those_that_name_frames = refl
 
 those_that_name_holders : commands_that_name names_holder ≡ codes "variables" ∷ codes "setVariable" ∷ []
 those_that_name_holders = refl
+
+-- the ids of frames come from `stackTrace` alone
+those_that_give_frames : map name_of (filter (λ c. are_frames (given_objects c)) all_commands) ≡ codes "stackTrace" ∷ []
+those_that_give_frames = refl
+
+members_of_bodies : (member_of (given_objects command.StackTrace) ≡ Some (codes "stackFrames")) × (member_of (given_objects command.Evaluate) ≡ Some (codes "variablesReference")) × (member_of (given_objects command.Source) ≡ None)
+members_of_bodies = (refl, refl, refl)
+
+numbers_of_objects : (number_key_of gives.Frames ≡ codes "id") × (least_of gives.Frames ≡ 0) × (number_key_of gives.Scopes ≡ codes "variablesReference") × (least_of gives.Scopes ≡ 1)
+numbers_of_objects = (refl, refl, refl, refl)
 
 -- success says all
 without_bodies : (has_body command.Launch ≡ false) × (has_body command.Disconnect ≡ false) × (has_body command.Next ≡ false) × (has_body command.Pause ≡ false)

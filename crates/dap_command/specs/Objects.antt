@@ -2,7 +2,7 @@
 -- of its success gives references to, and whether its success has a body at all.
 -- Specification, the types whose names end in "Arguments" and in "Response". That a `pause` may name any thread, since all of
 -- them pause, and that lines may be set in any source, is this profile's choice.
-use Rattle.std.specs.Prelude.{ℕ, List, map, filter, Bool, true, false, Option, Some, None}
+use Rattle.std.specs.Prelude.{◌≡◌, ◌≢◌, ℕ, List, map, filter, codes, Bool, true, false, Option, Some, None}
 use Rattle.dap_command.specs.Command.{name_of, all_commands}
 use Rattle.dap_command.specs.declared.command.Command.{Command}
 use Rattle.dap_command.specs.declared.command.Command.TheVariants.{Initialize, Launch, Attach, ConfigurationDone, Disconnect, Threads, Terminate, Cancel, SetBreakpoints, SetFunctionBreakpoints, SetExceptionBreakpoints, Continue, Next, StepIn, StepOut, Pause, StepBack, ReverseContinue, StackTrace, Scopes, Variables, Evaluate, Source, LoadedSources, SetVariable, Restart, Modules, ExceptionInfo, BreakpointLocations, Completions}
@@ -88,3 +88,33 @@ key_of names.Thread = Some ThreadId
 key_of names.Source = Some SourceReference
 key_of names.Frame = Some FrameId
 key_of names.Holder = Some VariablesReference
+
+-- ---- what a body gives, and where
+
+-- the member of a body that holds them: a list of objects, or the number of the value that the body is
+abbrev pub member_of : GivenObjects → Option (List ℕ)
+member_of gives.Nothing = None
+member_of gives.Frames = Some (codes "stackFrames")
+member_of gives.Scopes = Some (codes "scopes")
+member_of gives.Variables = Some (codes "variables")
+member_of gives.Value = Some (codes "variablesReference")
+
+-- they stand at this member, or nothing does
+abbrev pub IsAt : List ℕ → GivenObjects → Type 0
+IsAt member gives.Nothing = (objects : GivenObjects) → member_of objects ≢ Some member
+IsAt member objects = member_of objects ≡ Some member
+
+-- the key at which each has its number
+abbrev pub number_key_of : GivenObjects → List ℕ
+number_key_of gives.Frames = codes "id"
+number_key_of _ = codes "variablesReference"
+
+-- the least number: 0 in place of one by which variables are asked for says that there is nothing to ask for
+abbrev pub least_of : GivenObjects → ℕ
+least_of gives.Frames = 0
+least_of _ = 1
+
+-- their numbers are ids of frames; by all others variables are asked for
+abbrev pub are_frames : GivenObjects → Bool
+are_frames gives.Frames = true
+are_frames _ = false

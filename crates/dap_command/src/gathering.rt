@@ -1,30 +1,18 @@
 //! The references that a body gives, gathered from its text with no tree.
 //!
 //! They are those that `frames_given` and `holders_given` give over the body's tree. Which of them count depends on the
-//! command of the response, which may stand after the body in the text. So those of all commands are gathered. Where a
-//! body is odd nothing is told, and its tree has to be looked at.
+//! command of the response, which may stand after the body in the text. So those of all commands are gathered, from the
+//! members that [`GivenObjects`] names. Where a body is odd nothing is told, and its tree has to be looked at.
 ghost use Rattle.std.specs.Prelude.{◌≡◌, ◌≤◌, length, OnOk};
-ghost use Rattle.serde_json.specs.Data.{Data, Members, null, object, no_members, put};
-ghost use Rattle.dap_json.specs.Inside.{IsNextInside, IsRestInside};
+ghost use Rattle.serde_json.specs.Data.{Data, Items, Members, null, array, object, no_members, put};
+ghost use Rattle.dap_json.specs.Inside.{IsNextInside, IsRestInside, numbers_in};
 ghost use Rattle.dap_json.specs.ObjectReader.{IsNext};
-ghost use Rattle.dap_command.specs.Gathered.{given_frames, given_holders, AreGivenBy, AreGathered};
+ghost use Rattle.dap_command.specs.Gathered.{gathered, AreGivenBy};
+ghost use Rattle.dap_command.specs.Objects.{number_key_of, least_of};
 
-use crate::command::Command;
 use crate::objects::GivenObjects;
-use dap_json::object_reader::{Invalid, ObjectReader, Range};
+use dap_json::object_reader::{Invalid, ObjectReader};
 use std::alloc::Global;
-
-/// Which numbers are ids of frames.
-pub const FRAMES: Range = Range {
-    least: 0,
-    most: 2147483647,
-};
-
-/// By which numbers variables are asked for.
-pub const HOLDERS: Range = Range {
-    least: 1,
-    most: 2147483647,
-};
 
 /// The references that a body gives. It keeps its memory from body to body.
 #[derive(Drop)]
@@ -34,6 +22,18 @@ pub struct GatheredReferences {
     pub variables: Vec<u64>,
     /// That of a value.
     pub own: Vec<u64>,
+}
+
+/// Takes the list of such objects, and keeps their numbers in place of those before.
+fn take_list(
+    object_reader: &mut ObjectReader<'_>,
+    objects: GivenObjects,
+    numbers: &mut Vec<u64>,
+) -> Result<(), Invalid>
+    ensures { OnOk result ((ds : Items) × IsNextInside (array ds) object_reader.old object_reader.new × (numbers.new.items ≡ numbers_in (number_key_of objects) (least_of objects) 2147483647 ds)) }
+{
+    numbers.clear();
+    object_reader.column(objects.number_key(), objects.range(), numbers)
 }
 
 impl GatheredReferences {
@@ -64,27 +64,24 @@ impl GatheredReferences {
         key: &str,
         object_reader: &mut ObjectReader<'_>,
     ) -> Result<(), Invalid>
-        ensures { OnOk result ((d : Data) × IsNextInside d object_reader.old object_reader.new × ((found : Members) → AreGathered self.old (object found) → AreGathered self.new (object (put key.now d found)))) }
+        ensures { OnOk result ((d : Data) × IsNextInside d object_reader.old object_reader.new × ((found : Members) → AreGivenBy self.old (object found) → AreGivenBy self.new (object (put key.now d found)))) }
     {
-        match key {
-            "stackFrames" => {
-                self.frames.clear();
-                object_reader.column("id", FRAMES, &mut self.frames)?;
-            }
-            "scopes" => {
-                self.scopes.clear();
-                object_reader.column("variablesReference", HOLDERS, &mut self.scopes)?;
-            }
-            "variables" => {
-                self.variables.clear();
-                object_reader.column("variablesReference", HOLDERS, &mut self.variables)?;
-            }
-            "variablesReference" => {
-                self.own.clear();
-                object_reader.number(HOLDERS, &mut self.own)?;
-            }
-            _ => {
+        match GivenObjects::at_member(key) {
+            GivenObjects::Nothing => {
                 let _ = object_reader.pass_inner()?;
+            }
+            GivenObjects::Frames => {
+                take_list(object_reader, GivenObjects::Frames, &mut self.frames)?
+            }
+            GivenObjects::Scopes => {
+                take_list(object_reader, GivenObjects::Scopes, &mut self.scopes)?
+            }
+            GivenObjects::Variables => {
+                take_list(object_reader, GivenObjects::Variables, &mut self.variables)?
+            }
+            GivenObjects::Value => {
+                self.own.clear();
+                object_reader.number(GivenObjects::Value.range(), &mut self.own)?;
             }
         }
         Ok(())
@@ -92,8 +89,8 @@ impl GatheredReferences {
 
     /// Takes the members of the body that was entered, and its end.
     fn take_members(&mut self, object_reader: &mut ObjectReader<'_>) -> Result<(), Invalid>
-        requires { AreGathered self.old (object no_members) }
-        ensures members { OnOk result ((ms : Members) × IsRestInside object_reader.old object_reader.new no_members ms × AreGathered self.new (object ms)) }
+        requires { AreGivenBy self.old (object no_members) }
+        ensures members { OnOk result ((ms : Members) × IsRestInside object_reader.old object_reader.new no_members ms × AreGivenBy self.new (object ms)) }
         ensures shorter { OnOk result (length object_reader.new ≤ length object_reader.old) }
     {
         while let Some(key) = object_reader.inner_key()? {
@@ -114,19 +111,13 @@ impl GatheredReferences {
         Ok(())
     }
 
-    /// The ids of frames, where the body is that of a successful response to `stackTrace`.
-    pub fn frames(&self) -> &[u64]
-        ensures { result.now ≡ given_frames self.now }
+    /// The numbers of such objects.
+    pub fn numbers(&self, objects: GivenObjects) -> &[u64]
+        ensures { result.now ≡ gathered objects self.now }
     {
-        self.frames.as_slice()
-    }
-
-    /// The numbers by which variables can be asked for, where the body is that of a successful response to the command.
-    pub fn holders(&self, command: Command) -> &[u64]
-        ensures { result.now ≡ given_holders command self.now }
-    {
-        match command.given_objects() {
-            GivenObjects::Nothing | GivenObjects::Frames => &[],
+        match objects {
+            GivenObjects::Nothing => &[],
+            GivenObjects::Frames => self.frames.as_slice(),
             GivenObjects::Scopes => self.scopes.as_slice(),
             GivenObjects::Variables => self.variables.as_slice(),
             GivenObjects::Value => self.own.as_slice(),

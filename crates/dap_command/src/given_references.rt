@@ -5,71 +5,72 @@
 ghost use Rattle.std.specs.Prelude.{◌≡◌, List, ℕ};
 ghost use Rattle.std.specs.Iterator.{YieldsFirst, item_count};
 ghost use Rattle.serde_json.specs.View.{view, items_view};
-ghost use Rattle.dap_command.specs.GivenReferences.{reference_at, references_of, frame_ids, holders_of, items_at};
+ghost use Rattle.dap_command.specs.GivenReferences.{reference_at, references_of, frame_ids, holders_of, items_at, numbers_given, given_items};
 
 use crate::command::Command;
-use crate::objects::GivenObjects;
+use crate::objects::{GivenObjects, MAX_REFERENCE};
 use dap_json::field;
 use serde_json::Value;
 use std::marker::Model;
 use std::slice;
 
-/// The greatest number of a reference.
-const MAX_REFERENCE: u64 = 2147483647;
-
-/// The ids of stack frames, in order.
+/// The numbers of the objects that a body gives, in order.
 #[derive(Drop)]
-pub struct FramesGiven<'v> {
-    frames: &'v [Value],
+pub struct NumbersGiven<'v> {
+    objects: GivenObjects,
+    items: &'v [Value],
 }
 
-impl<'v> Model for FramesGiven<'v> {
-    ghost use Rattle.std.specs.Prelude.{List, ℕ, codes};
+impl<'v> Model for NumbersGiven<'v> {
+    ghost use Rattle.std.specs.Prelude.{List, ℕ};
+    ghost use Rattle.dap_command.specs.Objects.{number_key_of, least_of};
     ghost use Rattle.dap_command.specs.GivenReferences.{references_of};
 
     ghost Value = { List ℕ };
 
-    ghost view = { λ g. references_of (codes "id") 0 g.frames.now };
-}
-
-/// The numbers of scopes, variables and results, in order.
-#[derive(Drop)]
-pub struct HoldersGiven<'v> {
-    holders: &'v [Value],
-}
-
-impl<'v> Model for HoldersGiven<'v> {
-    ghost use Rattle.std.specs.Prelude.{List, ℕ, codes};
-    ghost use Rattle.dap_command.specs.GivenReferences.{references_of};
-
-    ghost Value = { List ℕ };
-
-    ghost view = { λ g. references_of (codes "variablesReference") 1 g.holders.now };
+    ghost view = { λ g. references_of (number_key_of g.objects) (least_of g.objects) g.items.now };
 }
 
 /// The ids of frames that the body of a successful response to `stackTrace` gives, each of 0 to 2147483647. Frames
 /// without such an id are passed over.
-pub fn frames_given(body: &Value) -> FramesGiven<'_>
+pub fn frames_given(body: &Value) -> NumbersGiven<'_>
     ensures { result ≡ frame_ids (view body.now) }
 {
-    FramesGiven {
-        frames: items(body, "stackFrames"),
-    }
+    numbers_given(GivenObjects::Frames, body)
 }
 
 /// The numbers by which variables can be asked for that the body of a successful response gives, each of 1 to
 /// 2147483647: those of the scopes or the variables in it, or that of the result. What has no such number is passed
 /// over, and a response to another command gives none.
-pub fn holders_given(command: Command, body: &Value) -> HoldersGiven<'_>
+pub fn holders_given(command: Command, body: &Value) -> NumbersGiven<'_>
     ensures { result ≡ holders_of command (view body.now) }
 {
-    let holders = match command.given_objects() {
-        GivenObjects::Nothing | GivenObjects::Frames => &[],
-        GivenObjects::Scopes => items(body, "scopes"),
-        GivenObjects::Variables => items(body, "variables"),
-        GivenObjects::Value => slice::from_ref(body),
-    };
-    HoldersGiven { holders }
+    match command.given_objects() {
+        GivenObjects::Frames => numbers_given(GivenObjects::Nothing, body),
+        objects => numbers_given(objects, body),
+    }
+}
+
+fn numbers_given(objects: GivenObjects, body: &Value) -> NumbersGiven<'_>
+    ensures { result ≡ numbers_given objects (view body.now) }
+{
+    NumbersGiven {
+        objects,
+        items: given_items(objects, body),
+    }
+}
+
+/// What has the numbers: the value that the body is, or each object of a list.
+fn given_items<'v>(objects: GivenObjects, body: &'v Value) -> &'v [Value]
+    ensures { items_view result.now ≡ given_items objects (view body.now) }
+{
+    if let GivenObjects::Value = objects {
+        return slice::from_ref(body);
+    }
+    match objects.member() {
+        None => &[],
+        Some(member) => items(body, member),
+    }
 }
 
 /// The items of the array at a key, or none.
@@ -107,7 +108,7 @@ fn first_reference<'v>(values: &'v [Value], key: &str, least: u64) -> (Option<u3
     (None, rest)
 }
 
-impl Iterator for FramesGiven<'_> {
+impl Iterator for NumbersGiven<'_> {
     type Item = u32;
 
     ghost next_gives = { YieldsFirst (λ s. s) };
@@ -115,22 +116,9 @@ impl Iterator for FramesGiven<'_> {
     ghost remaining = { item_count (λ s. s) };
 
     fn next(&mut self) -> Option<u32> {
-        let (found, rest) = first_reference(self.frames, "id", 0);
-        self.frames = rest;
-        found
-    }
-}
-
-impl Iterator for HoldersGiven<'_> {
-    type Item = u32;
-
-    ghost next_gives = { YieldsFirst (λ s. s) };
-
-    ghost remaining = { item_count (λ s. s) };
-
-    fn next(&mut self) -> Option<u32> {
-        let (found, rest) = first_reference(self.holders, "variablesReference", 1);
-        self.holders = rest;
+        let key = self.objects.number_key();
+        let (found, rest) = first_reference(self.items, key, self.objects.range().least);
+        self.items = rest;
         found
     }
 }

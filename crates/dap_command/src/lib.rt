@@ -17,8 +17,8 @@ mod source_key;
 
 pub use capabilities::Capabilities;
 pub use command::{Command, Gate};
-pub use gathering::{FRAMES, GatheredReferences, HOLDERS};
-pub use given_references::{FramesGiven, HoldersGiven, frames_given, holders_given};
+pub use gathering::GatheredReferences;
+pub use given_references::{NumbersGiven, frames_given, holders_given};
 pub use key::Key;
 pub use objects::{GivenObjects, NamedObject};
 pub use source_key::SourceKey;

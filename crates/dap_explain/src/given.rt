@@ -11,7 +11,7 @@ ghost use Rattle.dap_check.specs.declared.line.Line.{Line as TheLine};
 use crate::reason::ReferenceKind;
 use crate::trail::{Last, Opened};
 use dap_check::{Line, Side, words};
-use dap_command::{Command, frames_given, holders_given};
+use dap_command::{Command, GivenObjects, frames_given, holders_given};
 use dap_envelope::Kind;
 use serde_json::Value;
 use std::alloc::{AllocError, Global};
@@ -117,12 +117,12 @@ impl Given {
         let Some(body) = words::body(&line.message.kind) else {
             return Ok(());
         };
-        if command.as_str() == "stackTrace" {
-            add_frames(&mut self.frames, body, given)?;
-        }
-        match Command::of_name(command.as_str()) {
-            None => Ok(()),
-            Some(command) => add_holders(&mut self.holders, command, body, given),
+        let Some(command) = Command::of_name(command.as_str()) else {
+            return Ok(());
+        };
+        match command.given_objects() {
+            GivenObjects::Frames => add_frames(&mut self.frames, body, given),
+            _ => add_holders(&mut self.holders, command, body, given),
         }
     }
 

@@ -19,7 +19,7 @@ pub use dap_body::{
 };
 pub use dap_call::{
     BreakpointLocations, Call, CallFault, Capabilities, Command, Completions, Evaluate,
-    FramesGiven, Gate, GatheredReferences, HoldersGiven, Initialize, Key, MAX_ARGUMENTS, Modules,
+    Gate, GatheredReferences, GivenObjects, Initialize, Key, MAX_ARGUMENTS, Modules, NumbersGiven,
     RUN_IN_TERMINAL, SetVariable, SourceKey, StackTrace, TerminalCall, Variables, frames_given,
     holders_given, read_call, read_terminal, write_call, write_terminal,
 };

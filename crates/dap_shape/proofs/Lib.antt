@@ -4,3 +4,4 @@ pub mod SoundLemmas
 pub mod FewRows
 pub mod ReadLemmas
 mod BodyRows
+mod ObjectRows

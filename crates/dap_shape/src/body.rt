@@ -1,8 +1,9 @@
 //! The body of a message, passed with no tree: whether it has no fault, and the references that it gives.
-ghost use Rattle.std.specs.Prelude.{◌≡◌, ◌<◌, ◌++◌, map, length, OnOk, None};
+ghost use Rattle.std.specs.Prelude.{◌≡◌, ◌<◌, map, length, OnOk, None};
 ghost use Rattle.serde_json.specs.Data.{Data, Items, Members, array as array_data, object as object_data, no_members, put};
 ghost use Rattle.dap_json.specs.Inside.{numbers_in};
-ghost use Rattle.dap_command.specs.Gathered.{AreGivenBy, AreGathered};
+ghost use Rattle.dap_command.specs.Gathered.{AreGivenBy};
+ghost use Rattle.dap_command.specs.Objects.{number_key_of, least_of};
 ghost use Rattle.dap_shape.specs.Faults.{fault_of};
 ghost use Rattle.dap_shape.specs.Seen.{row_seen};
 ghost use Rattle.dap_shape.specs.PrivateSound.{AreFew, AreKept, object_fault, IsValue, AreMembers};
@@ -10,25 +11,24 @@ ghost use Rattle.dap_shape.specs.PrivateSound.{AreFew, AreKept, object_fault, Is
 use crate::rows::fields;
 use crate::shape::{Field, Kind, Shape, TypeName};
 use crate::sound::{SeenRows, column, lacks, member, row_of};
-use dap_command::{FRAMES, GatheredReferences, HOLDERS};
-use dap_json::object_reader::{Invalid, MAX_DEPTH, Range, keep, whole};
+use dap_command::{GatheredReferences, GivenObjects};
+use dap_json::object_reader::{Invalid, MAX_DEPTH, keep, whole};
 use json::{Reader, Token};
 
 /// How deep what stands in a body may nest.
 const DEPTH: usize = MAX_DEPTH - 2;
 
-/// Passes the list of a key, and adds the numbers in the range that its objects have at a key of theirs.
+/// Passes the list of such objects, and keeps their numbers in place of those before.
 fn list_of_row(
     reader: &mut Reader<'_>,
     rows: &'static [Field],
     seen: &mut SeenRows,
     name: &str,
-    key: &str,
-    range: Range,
-    found: &mut Vec<u64>,
+    objects: GivenObjects,
+    numbers: &mut Vec<u64>,
 ) -> Result<(), Invalid>
     requires { AreFew (map row_seen rows.now) }
-    ensures ok { OnOk result ((ds : Items) × IsValue 125 (array_data ds) reader.old reader.new × (found.new.items ≡ found.old.items ++ numbers_in key.now range.least range.most ds)
+    ensures ok { OnOk result ((ds : Items) × IsValue 125 (array_data ds) reader.old reader.new × (numbers.new.items ≡ numbers_in (number_key_of objects) (least_of objects) 2147483647 ds)
         × ((ms : Members) → AreKept ms (map row_seen rows.now) seen.old → AreKept (put name.now (array_data ds) ms) (map row_seen rows.now) seen.new)) }
     ensures shorter { OnOk result (length reader.new < length reader.old) }
 {
@@ -38,7 +38,8 @@ fn list_of_row(
     let Shape::Each(Kind::Object(type_name)) = row.shape() else {
         return Err(Invalid);
     };
-    column(reader, type_name, key, range, found)?;
+    numbers.clear();
+    column(reader, type_name, objects.number_key(), objects.range(), numbers)?;
     seen[place] = true;
     Ok(())
 }
@@ -52,47 +53,31 @@ fn take_member(
     given: &mut GatheredReferences,
 ) -> Result<(), Invalid>
     requires { AreFew (map row_seen rows.now) }
-    ensures ok { OnOk result ((d : Data) × IsValue 125 d reader.old reader.new × ((ms : Members) → AreGathered given.old (object_data ms) → AreGathered given.new (object_data (put name.now d ms)))
+    ensures ok { OnOk result ((d : Data) × IsValue 125 d reader.old reader.new × ((ms : Members) → AreGivenBy given.old (object_data ms) → AreGivenBy given.new (object_data (put name.now d ms)))
         × ((ms : Members) → AreKept ms (map row_seen rows.now) seen.old → AreKept (put name.now d ms) (map row_seen rows.now) seen.new)) }
     ensures shorter { OnOk result (length reader.new < length reader.old) }
 {
-    match name {
-        "stackFrames" => {
-            given.frames.clear();
-            list_of_row(reader, rows, seen, name, "id", FRAMES, &mut given.frames)
-        }
-        "scopes" => {
-            given.scopes.clear();
-            list_of_row(
-                reader,
-                rows,
-                seen,
-                name,
-                "variablesReference",
-                HOLDERS,
-                &mut given.scopes,
-            )
-        }
-        "variables" => {
-            given.variables.clear();
-            list_of_row(
-                reader,
-                rows,
-                seen,
-                name,
-                "variablesReference",
-                HOLDERS,
-                &mut given.variables,
-            )
-        }
-        "variablesReference" => {
-            given.own.clear();
-            let passed = member(reader, rows, seen, name, DEPTH)?;
-            keep(&mut given.own, HOLDERS, whole(passed))
-        }
-        _ => {
+    match GivenObjects::at_member(name) {
+        GivenObjects::Nothing => {
             let _ = member(reader, rows, seen, name, DEPTH)?;
             Ok(())
+        }
+        GivenObjects::Frames => {
+            let objects = GivenObjects::Frames;
+            list_of_row(reader, rows, seen, name, objects, &mut given.frames)
+        }
+        GivenObjects::Scopes => {
+            let objects = GivenObjects::Scopes;
+            list_of_row(reader, rows, seen, name, objects, &mut given.scopes)
+        }
+        GivenObjects::Variables => {
+            let objects = GivenObjects::Variables;
+            list_of_row(reader, rows, seen, name, objects, &mut given.variables)
+        }
+        GivenObjects::Value => {
+            given.own.clear();
+            let passed = member(reader, rows, seen, name, DEPTH)?;
+            keep(&mut given.own, GivenObjects::Value.range(), whole(passed))
         }
     }
 }
@@ -104,8 +89,8 @@ fn take_members(
     given: &mut GatheredReferences,
 ) -> Result<(), Invalid>
     requires few { AreFew (map row_seen rows.now) }
-    requires gathered { AreGathered given.old (object_data no_members) }
-    ensures ok { OnOk result ((ms : Members) × AreMembers 125 ms reader.old reader.new × AreGathered given.new (object_data ms) × object_fault (map row_seen rows.now) ms) }
+    requires gathered { AreGivenBy given.old (object_data no_members) }
+    ensures ok { OnOk result ((ms : Members) × AreMembers 125 ms reader.old reader.new × AreGivenBy given.new (object_data ms) × object_fault (map row_seen rows.now) ms) }
     ensures shorter { OnOk result (length reader.new < length reader.old) }
 {
     let mut seen = [false; 40];

@@ -1,8 +1,8 @@
 -- Which references a response gives, each with its kind.
 -- Specification, the responses that `dap_call` names.
-use Rattle.std.specs.Prelude.{ℕ, List, [], map, codes, Option, Some, None}
+use Rattle.std.specs.Prelude.{ℕ, List, [], map, Option, Some, None}
 use Rattle.serde_json.specs.Data.{Data}
-use Rattle.dap_command.specs.GivenReferences.{frame_ids, references_in, holder_items}
+use Rattle.dap_command.specs.GivenReferences.{frame_ids, numbers_given}
 use Rattle.dap_command.specs.Objects.{given_objects}
 use Rattle.dap_command.specs.declared.command.Command.{Command}
 use Rattle.dap_command.specs.declared.objects.GivenObjects.{GivenObjects}
@@ -18,7 +18,7 @@ holder n = (Holder, n)
 
 abbrev pub references_to : GivenObjects → Data → List (ReferenceKind × ℕ)
 references_to gives.Frames body = map frame (frame_ids body)
-references_to given body = map holder (references_in (codes "variablesReference") 1 (holder_items given body))
+references_to objects body = map holder (numbers_given objects body)
 
 -- by the row of the command
 abbrev pub references_given_by : Command → Data → List (ReferenceKind × ℕ)

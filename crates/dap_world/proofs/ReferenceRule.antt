@@ -29,7 +29,7 @@ use Rattle.dap_tables.specs.Known.{has_pair}
 use Rattle.dap_tables.specs.declared.reference_kind.ReferenceKind.{ReferenceKind}
 use Rattle.dap_tables.specs.declared.reference_kind.ReferenceKind.TheVariants.{Frame, Holder}
 use Rattle.dap_check.specs.Lines.{is_of, is_among}
-use Rattle.dap_check.specs.Rules.{resume_commands, resume_events, resumes, holders_for, frames_of_kind, holders_of_kind, contains_number, gives_frame, gives_holder, is_frame as is_known_frame, is_holder as is_known_holder, is_unknown, number_at, breaks_reference}
+use Rattle.dap_check.specs.Rules.{resume_commands, resume_events, resumes, frames_for, holders_for, frames_of_kind, holders_of_kind, contains_number, gives_frame, gives_holder, is_frame as is_known_frame, is_holder as is_known_holder, is_unknown, number_at, breaks_reference}
 use Rattle.dap_check.specs.Since.{is_open}
 use Rattle.dap_check.specs.declared.line.Line.{Line}
 use Rattle.dap_check.specs.declared.line.Side.{Side}
@@ -134,10 +134,6 @@ no-holder : (n : ℕ) (ids : List ℕ) → has_pair (Holder, n) (map frame ids) 
 no-holder n [] = refl
 no-holder n (m ∷ ids) = no-holder n ids
 
-frames-if : (b : Bool) (n : ℕ) (ids : List ℕ) → b ≡ true → contains_number n ids ≡ true → contains_number n (if b then ids else []) ≡ true
-frames-if true n ids e h = h
-frames-if false n ids e h = cc
-
 no-true : {A : Type 0} (b : Bool) → b ≡ false → b ≡ true → A
 no-true b e h = absurd (true≢false (sym h ∙ e))
 
@@ -145,7 +141,7 @@ no-true b e h = absurd (true≢false (sym h ∙ e))
 pair-given : (o : Option Command) (body : Option Data) (name : List ℕ) (p : ReferenceKind × ℕ) (q : ℕ) (message : Option (List ℕ)) → command_named name ≡ o → has_pair p (references_given_in o body) ≡ true → kind_gives p (Response q true name message body) ≡ true
 pair-given o None name p q message e h = cc
 pair-given None (Some body) name p q message e h = cc
-pair-given (Some command.StackTrace) (Some body) name (Frame, n) q message e h = frames-if (bytes_eq name (codes "stackTrace")) n (frame_ids body) (named-so name command.StackTrace e) (sym (frame-among n (frame_ids body)) ∙ h)
+pair-given (Some command.StackTrace) (Some body) name (Frame, n) q message e h = ap (λ (o : Option Command). contains_number n (frames_for o (Some body))) e ∙ (sym (frame-among n (frame_ids body)) ∙ h)
 pair-given (Some command.StackTrace) (Some body) name (Holder, n) q message e h = no-true _ (no-holder n (frame_ids body)) h
 pair-given (Some command.Scopes) (Some body) name (Holder, n) q message e h = ap (λ (o : Option Command). contains_number n (holders_for o (Some body))) e ∙ (sym (holder-among n (holders_of command.Scopes body)) ∙ h)
 pair-given (Some command.Variables) (Some body) name (Holder, n) q message e h = ap (λ (o : Option Command). contains_number n (holders_for o (Some body))) e ∙ (sym (holder-among n (holders_of command.Variables body)) ∙ h)

@@ -10,7 +10,7 @@ use dap_replay::Recorded;
 use std::alloc::Global;
 use std::marker::Model;
 use std::test::Fail;
-use test_kit::bodies::frame_of;
+use test_kit::bodies::{body_of, frame_of};
 use test_kit::samples::RECORDING;
 
 /// What the client writes, in order.
@@ -21,11 +21,11 @@ static UP: [&str; 4] = [
     r#"{"arguments":{"requestId":2},"command":"cancel","seq":4,"type":"request"}"#,
 ];
 
-/// What the adapter writes, in order.
+/// What the adapter writes, in order; some in short, as `test_kit::bodies` explains.
 static DOWN: [&str; 5] = [
-    r#"{"body":{"supportsCancelRequest":true,"supportsConfigurationDoneRequest":true,"supportsLoadedSourcesRequest":true,"supportsSetVariable":true,"supportsStepBack":true,"supportsTerminateRequest":true},"command":"initialize","request_seq":1,"seq":1,"success":true,"type":"response"}"#,
+    "capabilities seq 1 to 1",
     r#"{"event":"initialized","seq":2,"type":"event"}"#,
-    r#"{"body":{"error":{"format":"The request was cancelled.","id":1012}},"command":"threads","message":"cancelled","request_seq":2,"seq":3,"success":false,"type":"response"}"#,
+    "cancelled seq 3 to 2 threads",
     r#"{"command":"cancel","request_seq":4,"seq":4,"success":true,"type":"response"}"#,
     r#"{"body":{"threads":[]},"command":"threads","request_seq":3,"seq":5,"success":true,"type":"response"}"#,
 ];
@@ -181,11 +181,12 @@ impl Joined {
     }
 }
 
-/// These bodies, each in its frame.
+/// The bodies that these texts stand for, each in its frame.
 fn frames(alloc: Global, bodies: &[&str]) -> Option<Vec<u8>> {
     let mut frames = Vec::new(alloc);
     for body in bodies.iter() {
-        let frame = frame_of(alloc, body).ok()?;
+        let body = body_of(alloc, body).ok()?;
+        let frame = frame_of(alloc, &body).ok()?;
         frames.extend_from_slice(&frame).ok()?;
     }
     Some(frames)

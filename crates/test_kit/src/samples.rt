@@ -3,8 +3,9 @@
 ghost use Rattle.std.specs.Prelude.{◌≡◌, IfOk};
 ghost use Rattle.dap_debuggee.specs.declared.answers.State.{State};
 
+use crate::bodies::{body_of, frame_of};
 use crate::outcome::Outcome;
-use dap_frame::Limits;
+use dap_frame::{Limits, write_frame};
 use dap_recording::RecordingFault;
 use dap_replay::Recorded;
 use std::alloc::Global;
@@ -17,9 +18,6 @@ pub static RECORDING: &[u8; 569] =
 pub static INITIALIZE: &[u8; 81] =
     br#"{"seq":1,"type":"request","command":"initialize","arguments":{"adapterID":"rec"}}"#;
 
-pub static CAPABILITIES: &[u8; 278] =
-    br#"{"body":{"supportsCancelRequest":true,"supportsConfigurationDoneRequest":true,"supportsLoadedSourcesRequest":true,"supportsSetVariable":true,"supportsStepBack":true,"supportsTerminateRequest":true},"command":"initialize","request_seq":1,"seq":1,"success":true,"type":"response"}"#;
-
 pub static INITIALIZED: &[u8; 46] = br#"{"event":"initialized","seq":2,"type":"event"}"#;
 
 pub static THREADS: &[u8; 46] = br#"{"seq":1,"type":"request","command":"threads"}"#;
@@ -27,6 +25,14 @@ pub static THREADS: &[u8; 46] = br#"{"seq":1,"type":"request","command":"threads
 /// The answer to `THREADS` of an adapter that is not initialized.
 pub static NOT_INITIALIZED: &[u8; 178] =
     br#"{"body":{"error":{"format":"The session is not initialized.","id":1001}},"command":"threads","message":"notInitialized","request_seq":1,"seq":1,"success":false,"type":"response"}"#;
+
+/// The frames that answer `INITIALIZE`: what the adapter offers, then `INITIALIZED`.
+pub fn answer_to_initialize(alloc: Global) -> Option<Vec<u8>> {
+    let body = body_of(alloc, "capabilities seq 1 to 1").ok()?;
+    let mut frames = frame_of(alloc, &body).ok()?;
+    write_frame(&mut frames, INITIALIZED).ok()?;
+    Some(frames)
+}
 
 /// The debuggee of a recording, or what there is in its place.
 pub fn debuggee_of(alloc: Global, recording: &[u8]) -> Result<Recorded, Outcome>

@@ -10,7 +10,7 @@ use dap_frame::{FrameFault, Limits, Refusal, write_frame};
 use dap_tool::ToolFault;
 use std::alloc::Global;
 use std::test::Fail;
-use test_kit::samples::{CAPABILITIES, INITIALIZE, INITIALIZED, limits};
+use test_kit::samples::{INITIALIZE, answer_to_initialize, limits};
 
 /// Whether a stream that begins with `initialize` is refused after its answer, in pieces of some sizes, with this line.
 fn is_refused(
@@ -206,7 +206,7 @@ fn is_served_first(alloc: Global, stream: (&[u8], Terms)) -> bool {
         cause: Refusal::NoLength,
         offset: 103,
     })));
-    match frames_of(alloc, &[CAPABILITIES, INITIALIZED]) {
+    match answer_to_initialize(alloc) {
         Some(answer) => answer.len() == 369
             && is_served(alloc, Limits::usual(), stream, end, &answer),
         None => false,

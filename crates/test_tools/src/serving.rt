@@ -12,7 +12,7 @@ use std::alloc::Global;
 use std::io::Write;
 use std::test::Fail;
 use test_kit::samples::{
-    CAPABILITIES, INITIALIZE, INITIALIZED, NOT_INITIALIZED, RECORDING, THREADS,
+    INITIALIZE, NOT_INITIALIZED, RECORDING, THREADS, answer_to_initialize,
 };
 use test_kit::streams::{Pieces, Short};
 
@@ -166,7 +166,7 @@ pub(crate) fn is_served_in(
     sizes: [usize; 3],
     fault: AdapterFault,
 ) -> bool {
-    let Some(answer) = frames_of(alloc, &[CAPABILITIES, INITIALIZED]) else {
+    let Some(answer) = answer_to_initialize(alloc) else {
         return false;
     };
     for size in sizes {
@@ -189,7 +189,7 @@ fn other_initialize(alloc: Global, input: &[u8], answer: &[u8]) -> Option<usize>
 fn initializes(alloc: Global) -> Option<usize> {
     match (
         frames_of(alloc, &[INITIALIZE]),
-        frames_of(alloc, &[CAPABILITIES, INITIALIZED]),
+        answer_to_initialize(alloc),
     ) {
         (Some(input), Some(answer)) => other_initialize(alloc, &input, &answer),
         _ => Some(0),

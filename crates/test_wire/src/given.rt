@@ -1,7 +1,7 @@
 //! The references that bodies give, gathered beside the heading with no tree.
 
 use crate::checks::check;
-use dap_command::{Command, GatheredReferences};
+use dap_command::{GatheredReferences, GivenObjects};
 use dap_envelope::read_heading_and_references;
 use dap_json::object_reader::Scratch;
 
@@ -36,19 +36,19 @@ fn gathers_frames(rt: HostRuntime) {
     let mut given = GatheredReferences::new(rt.alloc());
     for (body, frames) in &FRAMES {
         check(&rt, is_read(&mut scratch, &mut given, body), *body);
-        check(&rt, given.frames() == *frames, *body);
+        check(&rt, given.numbers(GivenObjects::Frames) == *frames, *body);
     }
     drop(given);
     drop(scratch);
 }
 
-/// Commands, and the holders that the body of `gathers_holders` gives as their answer.
-static HOLDERS: [(Command, &[u64]); 5] = [
-    (Command::Scopes, &[2]),
-    (Command::Variables, &[2147483647, 3]),
-    (Command::Evaluate, &[7]),
-    (Command::SetVariable, &[7]),
-    (Command::StackTrace, &[]),
+/// What a body may give, and the numbers that the body of `gathers_holders` gives of it.
+static HOLDERS: [(GivenObjects, &[u64]); 5] = [
+    (GivenObjects::Scopes, &[2]),
+    (GivenObjects::Variables, &[2147483647, 3]),
+    (GivenObjects::Value, &[7]),
+    (GivenObjects::Frames, &[]),
+    (GivenObjects::Nothing, &[]),
 ];
 
 #[test]
@@ -58,11 +58,11 @@ fn gathers_holders(rt: HostRuntime) {
     let body =
         r#"{"body":{"scopes":[{"variablesReference":2},{"variablesReference":0}],"variables":[{"name":"a","value":"\"","variablesReference":2147483647},{"variablesReference":2147483648},{"variablesReference":3}],"variablesReference":7},"command":"scopes","type":"response","seq":1,"request_seq":1,"success":true}"#;
     check(&rt, is_read(&mut scratch, &mut given, body), body);
-    for (command, holders) in &HOLDERS {
-        check(&rt, given.holders(*command) == *holders, command.name());
+    for (objects, holders) in &HOLDERS {
+        check(&rt, given.numbers(*objects) == *holders, body);
     }
     given.clear();
-    check(&rt, given.holders(Command::Variables).is_empty(), "cleared");
+    check(&rt, given.numbers(GivenObjects::Variables).is_empty(), "cleared");
     drop(given);
     drop(scratch);
 }

@@ -5,7 +5,7 @@ use Rattle.json.specs.Reads.{token_of}
 use Rattle.json.proofs.Grammar.{value-begin_object}
 use Rattle.serde_json.specs.Data.{object}
 use Rattle.serde_json.specs.Read.{of_json, converted}
-use Rattle.dap_command.proofs.GatheredLemmas.{none_yet, given_by}
+use Rattle.dap_command.proofs.GatheredLemmas.{none_yet}
 use Rattle.dap_json.proofs.ObjectReaderLemmas.{converted-object}
 use Rattle.dap_shape.specs.Faults.{rows_fault}
 use Rattle.dap_shape.specs.Rows.{fields_of}
@@ -29,4 +29,4 @@ returns-clause-ok c =
     let opened = ap (converted of_json) (ap (value 126) opens ∙ value-begin_object 126 after (omega arith)) ∙ converted-object (members (value 125) (length after) after) in
     on_ok c.take_members.result _ _ (λ so.
     let sound : rows_fault (found_in (object so.0)) (fields_of c.args.name) ≡ None = subst (λ rows. rows_fault (found_in (object so.0)) rows ≡ None) c.fields.ensures so.3 in
-    (so.0, opened ∙ ap (parse_map object) so.1, given_by _ (object so.0) so.2, sym (fault_of-object c.args.name (object so.0) refl) ∙ sound)) c.take_members.ensures.ok
+    (so.0, opened ∙ ap (parse_map object) so.1, so.2, sym (fault_of-object c.args.name (object so.0) refl) ∙ sound)) c.take_members.ensures.ok

@@ -1,5 +1,5 @@
 use Rattle.serde_json.specs.Data.{object}
-use Rattle.dap_command.proofs.GatheredLemmas.{none_yet, given_by}
+use Rattle.dap_command.proofs.GatheredLemmas.{none_yet}
 use Rattle.dap_command.proofs.gathering.GatheredReferences.gather.Goals as goal
 
 pub take_members-requires : goal.take_members-requires
@@ -8,4 +8,4 @@ take_members-requires c = none_yet _ c.clear.ensures
 pub returns : goal.returns
 returns c =
     let got = c.in_ok-take_members.ensures.members in
-    (object got.0, c.in_ok-enter.ensures.entered _ got.0 got.1 c.in_ok-take_members.ensures.shorter, given_by _ (object got.0) got.2)
+    (object got.0, c.in_ok-enter.ensures.entered _ got.0 got.1 c.in_ok-take_members.ensures.shorter, got.2)
