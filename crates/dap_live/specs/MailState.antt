@@ -40,5 +40,8 @@ is_end (Some End) = true
 is_end _ = false
 
 -- the end behind all others; asked again right behind an end, it is that end
+abbrev pub and_end : List HostAct → List HostAct
+and_end acts = if is_end (last_or None acts) then acts else acts ++ End ∷ []
+
 abbrev pub with_end : MailState → MailState
-with_end m = if is_end (last_or None m.acts) then m else with_act End m
+with_end m = record m { acts = and_end m.acts }

@@ -3,9 +3,9 @@
 //! The host leaves what it says, and the debuggee what the host has to do, and why what it said last is dropped. Whoever has
 //! the adapter takes the mail out between its calls, and puts it back (`dap_debuggee::HasMail`). This file must not know the
 //! debuggee: what becomes of what is said is in `live.rt`.
-ghost use Rattle.std.specs.Prelude.{◌≡◌, None, false, OnOk, OnErr};
+ghost use Rattle.std.specs.Prelude.{◌≡◌, Some, None, false, OnOk, OnErr};
 ghost use Rattle.std.specs.List.{last_or};
-ghost use Rattle.dap_live.specs.MailState.{is_end};
+ghost use Rattle.dap_live.specs.MailState.{is_end as is_the_end};
 ghost use Rattle.dap_live.specs.PrivateHeld.{acts_held};
 
 use dap_command::SourceKey;
@@ -117,13 +117,20 @@ impl Model for Mail {
     ghost view = { λ m. record { coming = m.coming; acts = acts_held m.acts.items m.is_to_end; dropped = m.dropped } };
 }
 
+fn is_end(act: &HostAct) -> bool
+    ensures { result ≡ is_the_end (Some act.now) }
+{
+    matches!(act, HostAct::End)
+}
+
 /// Whether the last of them is the end.
+#[tactic(auto, using(crate::proofs::Mails::last_at))]
 fn is_at_end(acts: &[HostAct]) -> bool
-    ensures { result ≡ is_end (last_or None acts.now) }
+    ensures { result ≡ is_the_end (last_or None acts.now) }
 {
     match acts.last() {
-        Some(HostAct::End) => true,
-        _ => false,
+        Some(act) => is_end(act),
+        None => false,
     }
 }
 
