@@ -8,9 +8,11 @@
 
 mod answers;
 mod debuggee;
+mod mail;
 
 pub use answers::{
     Asked, Assigned, Category, DebuggeeFault, Evaluation, Frame, Happening, How, Scope, Source,
     State, Thread, Variable,
 };
 pub use debuggee::Debuggee;
+pub use mail::HasMail;
