@@ -7,7 +7,7 @@ use Rattle.dap_live.specs.Dropping.{why_unheard}
 use Rattle.dap_live.specs.Hearing.{told_by}
 use Rattle.dap_live.specs.LiveLaws.{FollowsLive}
 use Rattle.dap_live.specs.LiveShown.{LiveState, shown_live, with_mail}
-use Rattle.dap_live.specs.MailState.{MailState, no_mail, with_coming}
+use Rattle.dap_live.specs.MailState.{MailState, no_mail, with_coming, with_dropped}
 use Rattle.dap_live.specs.declared.mail.Coming.{Coming}
 use Rattle.dap_live.specs.declared.mail.Dropped.{Dropped}
 use Rattle.dap_live.specs.declared.mail.HostAct.{HostAct}
@@ -33,4 +33,6 @@ pub record TellsFed (old : AdapterState LiveState) (c : Coming) (bytes : List �
   pub polls : PollsOn shown_live FollowsLive (over_mail (with_coming c no_mail) old) [] there bytes
   pub told : polls.outs ≡ written_by old.session (after_happening (told_by (Some c) old.debuggee) old.session)
   pub why : dropped ≡ why_unheard c old.debuggee
+  -- no act was asked meanwhile
+  pub left : there.debuggee.mail ≡ with_dropped dropped no_mail
   pub fetched : new ≡ over_mail no_mail there
