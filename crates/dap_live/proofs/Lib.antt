@@ -1,3 +1,4 @@
 pub mod Shows
 pub mod Drops
+pub mod Mails
 mod LiveExamples

@@ -1,7 +1,8 @@
 -- Worked examples of what a host's debuggee drops, answers and shows, each shown by computation.
-use Rattle.std.proofs.Common.{◌≡◌, List, ℕ, [], ◌∷◌, codes, length, replicate, Bool, true, false, Option, None, Some, pos, refl, inl, inr}
+use Rattle.std.proofs.Common.{◌≡◌, List, ℕ, [], ◌∷◌, codes, length, replicate, Bool, true, false, Option, None, Some, pos, refl}
 use Rattle.dap_command.specs.declared.source_key.SourceKey.TheVariants.{Reference}
-use Rattle.dap_debuggee.specs.Shown.{to_start, to_resume, to_pause, to_poll, to_assign, done, refused, happened}
+use Rattle.dap_debuggee.specs.Shown.{to_start, to_resume, to_pause, to_poll, to_set_breakpoints, to_assign, to_end, done, refused, happened}
+use Rattle.dap_debuggee.specs.declared.answers.State.{State}
 use Rattle.dap_debuggee.specs.declared.answers.State.TheVariants.{NotStarted, Running, Stopped, Gone}
 use Rattle.dap_debuggee.specs.declared.answers.How.TheVariants.{Next}
 use Rattle.dap_debuggee.specs.declared.answers.Category.TheVariants.{Stdout}
@@ -12,10 +13,16 @@ use Rattle.dap_debuggee.specs.declared.answers.Variable.{Variable}
 use Rattle.dap_debuggee.specs.Laws.{with_value}
 use Rattle.dap_replay.specs.Played.{Played, fresh_played, shown_of, with_sources_of}
 use Rattle.dap_live.specs.declared.here.Here.{Here}
+use Rattle.dap_live.specs.declared.mail.Dropped.{Dropped}
 use Rattle.dap_live.specs.declared.mail.Dropped.TheVariants.{OutOfTurn, OutOfRange, Told, TooManyHolders}
 use Rattle.dap_live.specs.Dropping.{why_dropped, why_not_more, why_untold, heard}
 use Rattle.dap_live.specs.LiveShown.{LiveState, fresh_live, told_of, value_told, evaluated, evaluation_in, threads_in, now_shown, children_in, assigned_by}
-use Rattle.dap_live.specs.LiveLaws.{reply_in, with_told, ShowsAfter, SourcesAfter, LearnedAfter}
+use Rattle.dap_live.specs.declared.mail.Coming.{Coming}
+use Rattle.dap_live.specs.declared.mail.Coming.TheVariants as coming
+use Rattle.dap_live.specs.declared.mail.HostAct.TheVariants as act
+use Rattle.dap_live.specs.Hearing.{with_told}
+use Rattle.dap_live.specs.MailState.{MailState, no_mail, with_coming, with_dropped, with_act, with_end}
+use Rattle.dap_live.specs.LiveLaws.{reply_to, here_after, learned_after, sources_after, mail_after}
 
 abbrev wrote : List ℕ → Happening
 wrote text = happening.Output Stdout text
@@ -34,14 +41,6 @@ ranges = (refl, refl, refl, refl, refl)
 told : (heard Running stopped ≡ stopped) × (heard Stopped stopped ≡ happening.Nothing) × (heard Stopped (wrote (codes "x")) ≡ wrote (codes "x"))
 told = (refl, refl, refl)
 
--- ---- what is answered to an act
-
-starts : (reply_in to_start NotStarted done ≡ done) × (reply_in to_start Stopped refused ≡ refused) × (reply_in to_start Gone refused ≡ refused)
-starts = (refl, refl, refl)
-
-resumes : (reply_in (to_resume Next (pos 1)) Stopped done ≡ done) × (reply_in (to_resume Next (pos 1)) Running done ≡ refused) × (reply_in to_pause Running done ≡ done) × (reply_in to_pause Stopped done ≡ refused)
-resumes = (refl, refl, refl, refl)
-
 -- ---- what is shown
 
 abbrev sum : Option Learned
@@ -53,10 +52,6 @@ pair = Some (record { text = codes "p"; value = Some (codes "{..}"); holder = So
 
 abbrev none : Option Learned
 none = Some (record { text = codes "y"; value = None; holder = Some 7 })
-
--- a poll that gives something forgets it; a pause does not
-forgets : LearnedAfter sum to_poll (happened stopped) None × LearnedAfter sum to_pause done sum
-forgets = (refl, refl)
 
 texts : (value_told sum (codes "x + 1") ≡ Some (codes "2")) × (value_told sum (codes "x") ≡ None) × (value_told None (codes "x") ≡ None) × (value_told none (codes "y") ≡ None) × (told_of none (codes "x") ≡ None)
 texts = (refl, refl, refl, refl, refl)
@@ -129,26 +124,70 @@ drops_of_holders = (refl, refl, refl, refl, refl, refl, refl, refl, refl)
 values_set : (children_in (with_told 1 (with_value (codes "x") (codes "9") (one (codes "1"))) (shows true)) 1 ≡ Some (one (codes "9"))) × (children_in (with_told 0 (with_value (codes "x") (codes "9") (one (codes "2"))) told_more) 0 ≡ Some (one (codes "9"))) × (assigned_by (Some (codes "9")) (codes "x") (children_in told_more 0) ≡ Some (record { value = codes "9" })) × (assigned_by (Some (codes "9")) (codes "y") (children_in told_more 0) ≡ None) × (assigned_by None (codes "x") (children_in told_more 0) ≡ None)
 values_set = (refl, refl, refl, refl, refl)
 
--- ---- what is shown after an act
+-- ---- what an act answers and leaves
 
-abbrev at_stop : Bool → LiveState
-at_stop later = let fresh : LiveState = fresh_live begun in record fresh { state = Stopped; here = shows later; learned = Some (record { text = codes "9"; value = Some (codes "9"); holder = None }) }
+-- stopped, with a value of a text, after this was said
+abbrev at_stop : Bool → Option Coming → LiveState
+at_stop later said = let fresh : LiveState = fresh_live begun in record fresh { state = Stopped; here = shows later; learned = Some (record { text = codes "9"; value = Some (codes "9"); holder = None }); mail = record { coming = said; acts = act.Start ∷ []; dropped = Some Told } }
 
--- it stays, or has the variables that were told
-nothing_told : ShowsAfter (at_stop true) to_poll (happened happening.Nothing) (shows true)
-nothing_told = inl refl
+abbrev at : State → Option Coming → LiveState
+at state said = let stop : LiveState = at_stop true said in record stop { state = state }
 
-locals_told : ShowsAfter (at_stop true) to_poll (happened happening.Nothing) (with_told 0 (one (codes "2")) (shows true))
-locals_told = inr (record { holder = 0; variables = one (codes "2"); heard = refl; here = refl })
+starts : (reply_to to_start (at NotStarted None) ≡ done) × (reply_to to_start (at Stopped None) ≡ refused) × (reply_to to_start (at Gone None) ≡ refused)
+starts = (refl, refl, refl)
 
-another_stop : ShowsAfter (at_stop false) to_poll (happened stopped) (shows true)
-another_stop = record { moment = begun; later = true; here = refl }
+resumes : (reply_to (to_resume Next (pos 1)) (at Stopped None) ≡ done) × (reply_to (to_resume Next (pos 1)) (at Running None) ≡ refused) × (reply_to to_pause (at Running None) ≡ done) × (reply_to to_pause (at Stopped None) ≡ refused)
+resumes = (refl, refl, refl, refl)
 
-exit_shows : ShowsAfter (at_stop false) to_poll (happened (happening.Exited (pos 0))) (shows false)
-exit_shows = refl
+abbrev seven : Coming
+seven = coming.Exited (pos 7)
 
-nine_set : ShowsAfter (at_stop true) (to_assign 1 (codes "x") (codes "9")) done (with_told 1 (one (codes "9")) (shows true))
-nine_set = record { value = codes "9"; told = refl; variables = one (codes "1"); shown = refl; there = refl; here = refl }
+abbrev two : Coming
+two = coming.Variables 0 (one (codes "2"))
+
+abbrev halt : Coming
+halt = coming.Stopped (codes "step") (pos 3) recorded false
+
+abbrev sum_is : Coming
+sum_is = coming.Learned (codes "x + 1") (Some (codes "2")) None
+
+-- a poll gives just what was said, or nothing where that is dropped
+polls : (reply_to to_poll (at Stopped (Some seven)) ≡ happened (happening.Exited (pos 7))) × (reply_to to_poll (at Running (Some halt)) ≡ happened (happening.Stopped (codes "step") (pos 3))) × (reply_to to_poll (at Stopped (Some halt)) ≡ happened happening.Nothing) × (reply_to to_poll (at Stopped (Some two)) ≡ happened happening.Nothing) × (reply_to to_poll (at Stopped None) ≡ happened happening.Nothing)
+polls = (refl, refl, refl, refl, refl)
+
+-- and leaves why it is dropped; what came is taken, and the acts stay
+abbrev left : Option Dropped → MailState
+left why = record { coming = None; acts = act.Start ∷ []; dropped = why }
+
+reasons : (mail_after to_poll done (at Stopped (Some halt)) ≡ left (Some OutOfTurn)) × (mail_after to_poll done (at Stopped (Some seven)) ≡ left None) × (mail_after to_poll done (at Stopped None) ≡ left None) × (mail_after to_poll done (at Running (Some (coming.Exited (pos 3)))) ≡ left None) × (mail_after to_poll done (at Stopped (Some (coming.Variables 1 []))) ≡ left (Some Told))
+reasons = (refl, refl, refl, refl, refl)
+
+-- what is said comes in place of what was said, and the reason goes with that
+says : with_coming two (with_dropped (Some Told) (with_coming seven no_mail)) ≡ record { coming = Some two; acts = []; dropped = None }
+says = refl
+
+-- acts come in the order in which they were asked; a refused one does not
+acts_in_order : ((mail_after (to_resume Next (pos 1)) done (at Stopped None)).acts ≡ act.Start ∷ act.Resume Next (pos 1) ∷ []) × ((mail_after (to_resume Next (pos 1)) refused (at Running None)).acts ≡ act.Start ∷ []) × ((mail_after (to_assign 1 (codes "x") (codes "9")) done (at Stopped None)).acts ≡ act.Start ∷ act.Assign 1 (codes "x") (codes "9") ∷ []) × ((mail_after (to_set_breakpoints (Reference 1) (2 ∷ [])) done (at Gone None)).acts ≡ act.Start ∷ act.SetBreakpoints (Reference 1) (2 ∷ []) ∷ [])
+acts_in_order = (refl, refl, refl, refl)
+
+-- an end right behind an end is that end
+ends_once : (with_end (with_end (with_act act.Pause no_mail)) ≡ with_act act.End (with_act act.Pause no_mail)) × (with_end (with_act act.Start (with_end no_mail)) ≡ with_act act.End (with_act act.Start (with_act act.End no_mail))) × ((mail_after to_end done (at Gone None)).acts ≡ act.Start ∷ act.End ∷ [])
+ends_once = (refl, refl, refl)
+
+-- what was learned is forgotten by a poll, whatever came; a pause does not
+forgets : (learned_after to_poll (at Stopped (Some seven)) ≡ None) × (learned_after to_poll (at Stopped (Some halt)) ≡ None) × (learned_after to_poll (at Stopped None) ≡ None) × (learned_after to_poll (at Stopped (Some sum_is)) ≡ sum) × (value_told (learned_after to_pause (at Running None)) (codes "9") ≡ Some (codes "9"))
+forgets = (refl, refl, refl, refl, refl)
+
+-- what is shown stays, or has the variables that were told
+shown_next : (here_after to_poll (at_stop true None) ≡ shows true) × (here_after to_poll (at_stop true (Some two)) ≡ with_told 0 (one (codes "2")) (shows true)) × (here_after to_poll (at_stop false (Some two)) ≡ shows false) × (here_after to_poll (at_stop true (Some halt)) ≡ shows true) × (here_after to_poll (at_stop false (Some seven)) ≡ shows false)
+shown_next = (refl, refl, refl, refl, refl)
+
+-- or is another moment
+another_stop : threads_in (here_after to_poll (at Running (Some halt))) ≡ record { id = pos 1; name = codes "main" } ∷ []
+another_stop = refl
+
+nine_set : here_after (to_assign 1 (codes "x") (codes "9")) (at_stop true None) ≡ with_told 1 (one (codes "9")) (shows true)
+nine_set = refl
 
 -- ---- sources that come later
 
@@ -159,11 +198,5 @@ more = with_sources_of recorded recorded
 places : (length (shown_of more).sources ≡ 2) × ((shown_of more).content 1 ≡ Some (codes "x")) × ((shown_of more).content 2 ≡ None) × ((shown_of more).verify (Reference 2) (1 ∷ 2 ∷ []) ≡ Some (true ∷ false ∷ [])) × ((shown_of recorded).verify (Reference 2) (1 ∷ []) ≡ Some (false ∷ []))
 places = (refl, refl, refl, refl, refl)
 
-sources_told : SourcesAfter recorded to_poll (happened happening.Nothing) more
-sources_told = inr (record { more = recorded; base = refl })
-
-no_sources_told : SourcesAfter recorded to_poll (happened happening.Nothing) recorded
-no_sources_told = inl refl
-
-exit_has_the_same : SourcesAfter recorded to_poll (happened (happening.Exited (pos 0))) recorded
-exit_has_the_same = refl
+sources_next : (length (shown_of (sources_after to_poll (at Gone (Some (coming.Sources recorded))))).sources ≡ 2) × (sources_after to_poll (at Stopped (Some seven)) ≡ begun)
+sources_next = (refl, refl)

@@ -1,18 +1,12 @@
--- The frames of what is shown name sources that are there; what happens but a stop leaves what is shown, and the sources.
-use Rattle.std.proofs.Common.{◌≡◌, ◌≤◌, length, Option, Some, None, IsTrue, refl, sym, ap, subst, ◌∙◌, arith, inl}
-use Rattle.dap_debuggee.specs.Laws.{may_answer, may_happen, FramesInRange}
+-- The frames of what is shown name sources that are there.
+use Rattle.std.proofs.Common.{◌≡◌, ◌≤◌, length, Option, Some, None, sym, ap, subst, ◌∙◌, arith}
+use Rattle.dap_debuggee.specs.Laws.{FramesInRange}
 use Rattle.dap_debuggee.specs.declared.answers.State.{State}
 use Rattle.dap_debuggee.specs.declared.answers.State.TheVariants.{NotStarted, Running, Stopped, Gone}
 use Rattle.dap_replay.specs.Played.{Played, shown_of, with_sources_of}
 use Rattle.dap_replay.specs.SourceLaws.{sources_of-more}
 use Rattle.dap_replay.proofs.Wider.{frames_wider}
-use Rattle.dap_debuggee.specs.Shown.{to_poll, happened}
-use Rattle.dap_debuggee.specs.declared.answers.Happening.{Happening}
-use Rattle.dap_debuggee.specs.declared.answers.Happening.TheVariants as happening
-use Rattle.dap_live.specs.declared.held.Learned.{Learned}
 use Rattle.dap_live.specs.declared.here.Here.{Here}
-use Rattle.dap_live.specs.LiveLaws.{ShowsAfter, SourcesAfter, LearnedAfter}
-use Rattle.dap_live.specs.PrivateHeld.{IsNoStop}
 use Rattle.dap_live.specs.LiveShown.{LiveState, IsFew, shown_live, now_shown, frames_in}
 
 few_now : (s : State) (base : Played) (here : Option Here) (m : Here) → IsFew base here → now_shown s here ≡ Some m → length (shown_of m.moment).sources ≤ length (shown_of base).sources
@@ -33,33 +27,3 @@ in_range v m few is range thread frames told =
 pub few_more : (more base : Played) (here : Option Here) → IsFew base here → IsFew (with_sources_of more base) here
 few_more more base None few = few
 few_more more base (Some here) few = let wide = sources_of-more more base in omega (arith, few, wide)
-
--- what happens but a stop leaves what is shown
-pub same_shown : (v : LiveState) (h : Happening) → IsNoStop h → ShowsAfter v to_poll (happened h) v.here
-same_shown v happening.Nothing goes = inl refl
-same_shown v (happening.Output category text) goes = refl
-same_shown v (happening.Stopped reason thread) goes = absurd goes
-same_shown v (happening.Continued thread) goes = refl
-same_shown v (happening.Exited code) goes = refl
-
-pub same_sources : (base : Played) (h : Happening) → SourcesAfter base to_poll (happened h) base
-same_sources base happening.Nothing = inl refl
-same_sources base (happening.Output category text) = refl
-same_sources base (happening.Stopped reason thread) = refl
-same_sources base (happening.Continued thread) = refl
-same_sources base (happening.Exited code) = refl
-
--- what happens leaves nothing known of a text
-pub none_learned : (known : Option Learned) (h : Happening) → LearnedAfter known to_poll (happened h) None
-none_learned known happening.Nothing = tt
-none_learned known (happening.Output category text) = refl
-none_learned known (happening.Stopped reason thread) = refl
-none_learned known (happening.Continued thread) = refl
-none_learned known (happening.Exited code) = refl
-
--- what may happen may be told by a poll
-pub may_tell : (s : State) (h : Happening) → IsTrue (may_happen s h) → IsTrue (may_answer s to_poll (happened h))
-may_tell NotStarted h may = may
-may_tell Running h may = may
-may_tell Stopped h may = may
-may_tell Gone h may = may

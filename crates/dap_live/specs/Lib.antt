@@ -1,5 +1,7 @@
-pub mod Dropping
+pub mod MailState
 pub mod LiveShown
-pub mod PrivateHeld
+pub mod Dropping
+pub mod Hearing
 pub mod LiveLaws
+pub mod PrivateHeld
 pub mod PrivateHearing

@@ -1,21 +1,22 @@
--- The views that an act may leave of a debuggee that a host feeds, and that each law of every debuggee is kept, whatever the host tells.
-use Rattle.std.proofs.Common.{◌≡◌, ◌⊎◌, ℕ, ℤ, ◌+◌, ◌%◌, ◌^◌, Bool, true, false, nat_eq, List, [], length, Option, Some, None, option_map, IsTrue, if◌then◌else◌, refl, sym, ap, subst, ◌∙◌, inl, inr, true≢false}
+-- What an act answers and leaves of a debuggee that a host feeds, and that each law of every debuggee is kept, whatever the host tells.
+use Rattle.std.proofs.Common.{◌≡◌, ℕ, ℤ, ◌+◌, ◌%◌, ◌^◌, Bool, true, false, nat_eq, List, [], length, Option, Some, None, option_map, IsTrue, if◌then◌else◌, refl, sym, ap, subst, ◌∙◌, true≢false}
 use Rattle.std.proofs.lemmas.Bool.{eqb-true}
-use Rattle.std.specs.Prelude.{option_and_then}
+use Rattle.std.specs.Prelude.{option_and_then, unwrap_or}
 use Rattle.std.specs.List.{slice_get}
 use Rattle.std.specs.Option.{IsSome}
 use Rattle.dap_command.specs.declared.source_key.SourceKey.{SourceKey}
 use Rattle.dap_debuggee.specs.Shown.{Act, to_start, to_resume, to_pause, to_poll, to_set_breakpoints, to_assign, to_end, Reply, done, refused, happened, asked_of_act, Last}
-use Rattle.dap_debuggee.specs.Laws.{may_answer, state_after, lines_after, keeps_answers, keeps_frames, variable_named, with_value, children_after, Stays, Counts, Remembers, Answers, Moves, SetsLines, SetsValues, KeepsAnswers, KeepsFrames, KeepsSources, FramesStay, SourcesStay, SameFrames, SameSources, NoThreads, VerifiesEach, AssignsVariables}
+use Rattle.dap_debuggee.specs.Laws.{may_answer, may_happen, is_short, state_after, lines_after, keeps_answers, keeps_frames, variable_named, with_value, children_after, Stays, Counts, Remembers, Answers, Moves, SetsLines, SetsValues, KeepsAnswers, KeepsFrames, KeepsSources, FramesStay, SourcesStay, SameFrames, SameSources, NoThreads, VerifiesEach, AssignsVariables}
 use Rattle.dap_debuggee.specs.StayLaws.{frames-stay, sources-stay}
 use Rattle.dap_debuggee.specs.declared.answers.State.{State}
 use Rattle.dap_debuggee.specs.declared.answers.State.TheVariants.{NotStarted, Running, Stopped, Gone}
 use Rattle.dap_debuggee.specs.declared.answers.How.{How}
 use Rattle.dap_debuggee.specs.declared.answers.Category.{Category}
+use Rattle.dap_debuggee.specs.declared.answers.Happening.{Happening}
 use Rattle.dap_debuggee.specs.declared.answers.Happening.TheVariants as happening
 use Rattle.dap_debuggee.specs.declared.answers.Variable.{Variable}
 use Rattle.dap_debuggee.specs.declared.answers.Assigned.{Assigned}
-use Rattle.dap_replay.specs.Played.{Played, shown_of, lines_in, with_source_lines, with_variables, with_sources_of, variables_at, first_of, assigned_of}
+use Rattle.dap_replay.specs.Played.{Played, shown_of, lines_in, with_source_lines, with_variables, variables_at, first_of, assigned_of}
 use Rattle.dap_replay.specs.PlayedLaws.{verifies_each-played}
 use Rattle.dap_replay.specs.SourceLaws.{sources_of-stay}
 use Rattle.dap_replay.specs.VariableLaws.{variables-put, variables-of_others, assigned-by, assigned-there}
@@ -23,14 +24,17 @@ use Rattle.dap_tables.specs.SourceMap.{OfSource}
 use Rattle.dap_tables.specs.SourceMapLaws.{set-of-put}
 use Rattle.dap_live.specs.declared.held.Learned.{Learned}
 use Rattle.dap_live.specs.declared.here.Here.{Here}
-use Rattle.dap_live.specs.Dropping.{why_not_more, why_untold}
+use Rattle.dap_live.specs.declared.mail.Coming.{Coming}
+use Rattle.dap_live.specs.declared.mail.Coming.TheVariants as coming
+use Rattle.dap_live.specs.declared.mail.Dropped.{Dropped}
+use Rattle.dap_live.specs.declared.mail.Dropped.TheVariants.{OutOfTurn, OutOfRange}
+use Rattle.dap_live.specs.declared.mail.HostAct.TheVariants as act
+use Rattle.dap_live.specs.MailState.{MailState, with_act, with_end}
+use Rattle.dap_live.specs.Dropping.{why_dropped, why_not_more, why_untold, why_too_wide, why_unheard, unless_dropped}
+use Rattle.dap_live.specs.Hearing.{happening_by, why_not_heard, told_by, learned_by, with_told, here_with, here_by, sources_with, sources_by}
 use Rattle.dap_live.specs.LiveShown.{LiveState, shown_live, now_shown, threads_in, frames_in, scopes_in, children_in, evaluation_in, told_of, value_told, evaluated, assigned_by}
 
--- ---- the views
-
--- an act counted and remembered
-abbrev pub noted : Last → LiveState → LiveState
-noted last v = record v { acts = (v.acts + 1) % 2 ^ 64; last = Some last }
+-- ---- what is answered
 
 -- it is started where it is not started, goes on where it is stopped, and is asked to stop where it runs
 abbrev pub reply_to_start : State → Reply
@@ -51,80 +55,82 @@ reply_to_pause Running = done
 reply_to_pause Stopped = refused
 reply_to_pause Gone = refused
 
--- where the state decides what is answered, it is that
-abbrev pub reply_in : Act → State → Reply → Reply
-reply_in to_start state reply = reply_to_start state
-reply_in (to_resume how thread) state reply = reply_to_resume state
-reply_in to_pause state reply = reply_to_pause state
-reply_in to_poll state reply = reply
-reply_in (to_set_breakpoints source lines) state reply = reply
-reply_in (to_assign holder name text) state reply = reply
-reply_in to_end state reply = reply
+-- a poll gives just what the host said last, or nothing
+abbrev pub reply_to : Act → LiveState → Reply
+reply_to to_start v = reply_to_start v.state
+reply_to (to_resume how thread) v = reply_to_resume v.state
+reply_to to_pause v = reply_to_pause v.state
+reply_to to_poll v = happened (told_by v.mail.coming v)
+reply_to (to_set_breakpoints source lines) v = done
+reply_to (to_assign holder name text) v = done
+reply_to to_end v = done
+
+-- ---- the views
+
+-- an act counted and remembered
+abbrev pub noted : Last → LiveState → LiveState
+noted last v = record v { acts = (v.acts + 1) % 2 ^ 64; last = Some last }
 
 abbrev pub set_after : Act → List (OfSource ℕ) → List (OfSource ℕ)
 set_after (to_set_breakpoints source lines) set = with_source_lines source lines set
 set_after _ set = set
 
--- Where a poll gives nothing, the host may have told of a text. A poll that gives something leaves nothing known. Else that stays.
-abbrev pub LearnedAfter : Option Learned → Act → Reply → Option Learned → Type 0
-LearnedAfter known to_poll (happened happening.Nothing) after = Unit {0}
-LearnedAfter known to_poll reply after = after ≡ None
-LearnedAfter known _ _ after = after ≡ known
+-- the value that the host told of a text, where there is one
+abbrev pub value_for : List ℕ → LiveState → List ℕ
+value_for text v = unwrap_or (value_told v.learned text) []
 
--- variables of a holder, before what the moment has
-abbrev pub with_told : ℕ → List Variable → Option Here → Option Here
-with_told holder variables here = option_map (λ (h : Here). record h { told = with_variables holder variables h.told }) here
+-- the variables of a holder, where it has some; the first of the name has the value that the host told of the text
+abbrev pub variables_set : ℕ → List ℕ → List ℕ → LiveState → List Variable
+variables_set holder name text v = with_value name (value_for text v) (unwrap_or (children_in (now_shown v.state v.here) holder) [])
 
--- the moment of a stop, of which nothing is told yet
-pub record ShowsMoment (after : Option Here) : Type 0 where
-  pub moment : Played
-  pub later : Bool
-  pub here : after ≡ Some (record { moment = moment; later = later; told = [] })
+-- by a poll what was heard is shown, and a variable that is set has its value; else what is shown stays
+abbrev pub here_after : Act → LiveState → Option Here
+here_after to_poll v = here_by v.mail.coming (why_not_heard v.mail.coming v) v.here
+here_after (to_assign holder name text) v = with_told holder (variables_set holder name text v) v.here
+here_after _ v = v.here
 
--- the host told the variables of a holder that had none
-pub record TellsVariables (v : LiveState) (after : Option Here) : Type 0 where
-  pub holder : ℕ
-  pub variables : List Variable
-  pub heard : why_untold (now_shown v.state v.here) holder ≡ None
-  pub here : after ≡ with_told holder variables v.here
+-- what is known of a text is what the last poll heard of one
+abbrev pub learned_after : Act → LiveState → Option Learned
+learned_after to_poll v = learned_by v.mail.coming
+learned_after _ v = v.learned
 
--- the first variable of the name in the holder has the value that the host told of the text
-pub record SetsVariable (v : LiveState) (holder : ℕ) (name text : List ℕ) (after : Option Here) : Type 0 where
-  pub value : List ℕ
-  pub told : value_told v.learned text ≡ Some value
-  pub variables : List Variable
-  pub shown : children_in (now_shown v.state v.here) holder ≡ Some variables
-  pub there : IsSome (variable_named name variables)
-  pub here : after ≡ with_told holder (with_value name value variables) v.here
+abbrev pub sources_after : Act → LiveState → Played
+sources_after to_poll v = sources_by v.mail.coming (why_not_heard v.mail.coming v) v.base
+sources_after _ v = v.base
 
--- Another moment is shown once a poll gives a stop. Where a poll gives nothing, variables may have been told. A variable that is set has its value. Else what is shown stays.
-abbrev pub ShowsAfter : LiveState → Act → Reply → Option Here → Type 0
-ShowsAfter v to_poll (happened (happening.Stopped reason thread)) after = ShowsMoment after
-ShowsAfter v to_poll (happened happening.Nothing) after = (after ≡ v.here) ⊎ TellsVariables v after
-ShowsAfter v (to_assign holder name text) reply after = SetsVariable v holder name text after
-ShowsAfter v _ _ after = after ≡ v.here
+-- An act that is done is left for the host as it was asked, behind all others; one that is refused is not. A poll takes what came, and leaves why that is dropped.
+abbrev pub mail_after : Act → Reply → LiveState → MailState
+mail_after to_start done v = with_act act.Start v.mail
+mail_after (to_resume how thread) done v = with_act (act.Resume how thread) v.mail
+mail_after to_pause done v = with_act act.Pause v.mail
+mail_after to_poll reply v = record { coming = None; acts = v.mail.acts; dropped = why_not_heard v.mail.coming v }
+mail_after (to_set_breakpoints source lines) reply v = with_act (act.SetBreakpoints source lines) v.mail
+mail_after (to_assign holder name text) reply v = with_act (act.Assign holder name (value_for text v)) v.mail
+mail_after to_end reply v = with_end v.mail
+mail_after _ _ v = v.mail
 
--- the host told sources
-pub record TellsSources (before after : Played) : Type 0 where
-  pub more : Played
-  pub base : after ≡ with_sources_of more before
+abbrev pub view_after : Act → Reply → LiveState → LiveState
+view_after a reply v = record {
+  base = sources_after a v;
+  here = here_after a v;
+  learned = learned_after a v;
+  state = state_after v.state a reply;
+  set = set_after a v.set;
+  acts = (v.acts + 1) % 2 ^ 64;
+  last = Some (record { asked = asked_of_act a; reply = reply });
+  mail = mail_after a reply v;
+}
 
--- Where a poll gives nothing, sources may have come behind those there are. Else they stay.
-abbrev pub SourcesAfter : Played → Act → Reply → Played → Type 0
-SourcesAfter base to_poll (happened happening.Nothing) after = (after ≡ base) ⊎ TellsSources base after
-SourcesAfter base _ _ after = after ≡ base
+-- only a variable that is there is set, where the host told a value of the text
+abbrev pub CanBeAsked : Act → LiveState → Type 0
+CanBeAsked (to_assign holder name text) v = IsSome ((shown_live v).assigned holder name text)
+CanBeAsked _ v = Unit {0}
 
--- An act with an answer may leave these. What the host tells is free: which moment it shows at a stop, which variables it tells of a holder that has none, which sources come, and what it tells of a text at a poll.
+-- What an act answers, and what it leaves. Nothing is free: the host has said before what a poll gives.
 pub record FollowsLive (v : LiveState) (a : Act) (r : Reply) (w : LiveState) : Type 0 where
-  pub may : IsTrue (may_answer v.state a r)
-  pub reply : r ≡ reply_in a v.state r
-  pub state : w.state ≡ state_after v.state a r
-  pub acts : w.acts ≡ (v.acts + 1) % 2 ^ 64
-  pub last : w.last ≡ Some (record { asked = asked_of_act a; reply = r })
-  pub set : w.set ≡ set_after a v.set
-  pub base : SourcesAfter v.base a r w.base
-  pub here : ShowsAfter v a r w.here
-  pub learned : LearnedAfter v.learned a r w.learned
+  pub asked : CanBeAsked a v
+  pub reply : r ≡ reply_to a v
+  pub view : w ≡ view_after a r v
 
 -- ---- states
 
@@ -191,25 +197,34 @@ same_state s (to_assign holder name text) r k = absurd (true≢false (sym k))
 same_state s to_end r k = absurd (true≢false (sym k))
 
 -- and what keeps all answers keeps what is shown
-same_here : (v : LiveState) (a : Act) (r : Reply) (after : Option Here) → IsTrue (keeps_answers a r) → ShowsAfter v a r after → after ≡ v.here
-same_here v to_start r after k shows = shows
-same_here v (to_resume how thread) r after k shows = shows
-same_here v to_pause r after k shows = shows
-same_here v to_poll r after k shows = absurd (true≢false (sym k))
-same_here v (to_set_breakpoints source lines) r after k shows = shows
-same_here v (to_assign holder name text) r after k shows = absurd (true≢false (sym k))
-same_here v to_end r after k shows = shows
+same_here : (a : Act) (r : Reply) (v : LiveState) → IsTrue (keeps_answers a r) → here_after a v ≡ v.here
+same_here to_start r v k = refl
+same_here (to_resume how thread) r v k = refl
+same_here to_pause r v k = refl
+same_here to_poll r v k = absurd (true≢false (sym k))
+same_here (to_set_breakpoints source lines) r v k = refl
+same_here (to_assign holder name text) r v k = absurd (true≢false (sym k))
+same_here to_end r v k = refl
 
-same_base : (base : Played) (a : Act) (r : Reply) (after : Played) → IsTrue (keeps_answers a r) → SourcesAfter base a r after → after ≡ base
-same_base base to_start r after k sources = sources
-same_base base (to_resume how thread) r after k sources = sources
-same_base base to_pause r after k sources = sources
-same_base base to_poll r after k sources = absurd (true≢false (sym k))
-same_base base (to_set_breakpoints source lines) r after k sources = sources
-same_base base (to_assign holder name text) r after k sources = absurd (true≢false (sym k))
-same_base base to_end r after k sources = sources
+same_base : (a : Act) (r : Reply) (v : LiveState) → IsTrue (keeps_answers a r) → sources_after a v ≡ v.base
+same_base to_start r v k = refl
+same_base (to_resume how thread) r v k = refl
+same_base to_pause r v k = refl
+same_base to_poll r v k = absurd (true≢false (sym k))
+same_base (to_set_breakpoints source lines) r v k = refl
+same_base (to_assign holder name text) r v k = refl
+same_base to_end r v k = refl
 
--- what keeps all answers keeps the frames, and what is known of a text
+same_learned : (a : Act) (r : Reply) (v : LiveState) → IsTrue (keeps_answers a r) → learned_after a v ≡ v.learned
+same_learned to_start r v k = refl
+same_learned (to_resume how thread) r v k = refl
+same_learned to_pause r v k = refl
+same_learned to_poll r v k = absurd (true≢false (sym k))
+same_learned (to_set_breakpoints source lines) r v k = refl
+same_learned (to_assign holder name text) r v k = refl
+same_learned to_end r v k = refl
+
+-- what keeps all answers keeps the frames
 keeps_too : (a : Act) (r : Reply) → IsTrue (keeps_answers a r) → IsTrue (keeps_frames a r)
 keeps_too to_start r keeps = keeps
 keeps_too (to_resume how thread) r keeps = keeps
@@ -219,24 +234,109 @@ keeps_too (to_set_breakpoints source lines) r keeps = refl
 keeps_too (to_assign holder name text) r keeps = absurd (true≢false (sym keeps))
 keeps_too to_end r keeps = absurd (true≢false (sym keeps))
 
-same_learned : (known : Option Learned) (a : Act) (r : Reply) (after : Option Learned) → IsTrue (keeps_answers a r) → LearnedAfter known a r after → after ≡ known
-same_learned known to_start r after k stays = stays
-same_learned known (to_resume how thread) r after k stays = stays
-same_learned known to_pause r after k stays = stays
-same_learned known to_poll r after k stays = absurd (true≢false (sym k))
-same_learned known (to_set_breakpoints source lines) r after k stays = stays
-same_learned known (to_assign holder name text) r after k stays = stays
-same_learned known to_end r after k stays = stays
+-- ---- what is told may happen
+
+may_nothing : (s : State) → IsTrue (may_happen s happening.Nothing)
+may_nothing NotStarted = refl
+may_nothing Running = refl
+may_nothing Stopped = refl
+may_nothing Gone = refl
+
+abbrev why : Bool → Bool → Option Dropped
+why may short = if may then (if short then None else Some OutOfRange) else Some OutOfTurn
+
+not_dropped : (may short : Bool) → why may short ≡ None → IsTrue may
+not_dropped true short is = refl
+not_dropped false short is = absurd (cc is)
+
+may_unless : (s : State) (h : Happening) (o : Option Dropped) → (o ≡ None → IsTrue (may_happen s h)) → IsTrue (may_happen s (unless_dropped o h))
+may_unless s h None may = may refl
+may_unless s h (Some x) may = may_nothing s
+
+may_dropped : (s : State) (h : Happening) → IsTrue (may_happen s (unless_dropped (why_dropped s h) h))
+may_dropped s h = may_unless s h (why_dropped s h) (not_dropped (may_happen s h) (is_short h))
+
+-- where the first is none
+first_none : {A : Type 0} (o other : Option A) → first_of o other ≡ None → o ≡ None
+first_none None other is = refl
+first_none (Some x) other is = absurd (cc is)
+
+may_tell_of : (c : Coming) (v : LiveState) → IsTrue (may_happen v.state (unless_dropped (why_unheard c v) (happening_by c)))
+may_tell_of (coming.Output category text) v = may_dropped v.state (happening.Output category text)
+may_tell_of (coming.Stopped reason thread shows later) v =
+    let h : Happening = happening.Stopped reason thread in
+    let unheard : Option Dropped = why_unheard (coming.Stopped reason thread shows later) v in
+    may_unless v.state h unheard (λ is. not_dropped (may_happen v.state h) (is_short h) (first_none (why_dropped v.state h) (why_too_wide shows v.base) is))
+may_tell_of (coming.Continued thread) v = may_dropped v.state (happening.Continued thread)
+may_tell_of (coming.Exited code) v = may_dropped v.state (happening.Exited code)
+may_tell_of (coming.Learned text value holder) v = may_nothing v.state
+may_tell_of (coming.Variables holder variables) v = may_unless v.state happening.Nothing (why_unheard (coming.Variables holder variables) v) (λ is. may_nothing v.state)
+may_tell_of (coming.Sources more) v = may_unless v.state happening.Nothing (why_unheard (coming.Sources more) v) (λ is. may_nothing v.state)
+
+may_tell : (o : Option Coming) (v : LiveState) → IsTrue (may_happen v.state (told_by o v))
+may_tell None v = may_nothing v.state
+may_tell (Some c) v = may_tell_of c v
+
+may_start : (s : State) → IsTrue (may_answer s to_start (reply_to_start s))
+may_start NotStarted = refl
+may_start Running = refl
+may_start Stopped = refl
+may_start Gone = refl
+
+may_resume : (s : State) (how : How) (thread : ℤ) → IsTrue (may_answer s (to_resume how thread) (reply_to_resume s))
+may_resume NotStarted how thread = refl
+may_resume Running how thread = refl
+may_resume Stopped how thread = refl
+may_resume Gone how thread = refl
+
+may_pause : (s : State) → IsTrue (may_answer s to_pause (reply_to_pause s))
+may_pause NotStarted = refl
+may_pause Running = refl
+may_pause Stopped = refl
+may_pause Gone = refl
+
+may_poll : (s : State) (h : Happening) → IsTrue (may_happen s h) → IsTrue (may_answer s to_poll (happened h))
+may_poll NotStarted h may = may
+may_poll Running h may = may
+may_poll Stopped h may = may
+may_poll Gone h may = may
+
+may_set : (s : State) (source : SourceKey) (lines : List ℕ) → IsTrue (may_answer s (to_set_breakpoints source lines) done)
+may_set NotStarted source lines = refl
+may_set Running source lines = refl
+may_set Stopped source lines = refl
+may_set Gone source lines = refl
+
+may_assign : (s : State) (holder : ℕ) (name text : List ℕ) → IsTrue (may_answer s (to_assign holder name text) done)
+may_assign NotStarted holder name text = refl
+may_assign Running holder name text = refl
+may_assign Stopped holder name text = refl
+may_assign Gone holder name text = refl
+
+may_end : (s : State) → IsTrue (may_answer s to_end done)
+may_end NotStarted = refl
+may_end Running = refl
+may_end Stopped = refl
+may_end Gone = refl
+
+may_reply : (a : Act) (v : LiveState) → IsTrue (may_answer v.state a (reply_to a v))
+may_reply to_start v = may_start v.state
+may_reply (to_resume how thread) v = may_resume v.state how thread
+may_reply to_pause v = may_pause v.state
+may_reply to_poll v = may_poll v.state (told_by v.mail.coming v) (may_tell v.mail.coming v)
+may_reply (to_set_breakpoints source lines) v = may_set v.state source lines
+may_reply (to_assign holder name text) v = may_assign v.state holder name text
+may_reply to_end v = may_end v.state
 
 -- ---- variables that are told
 
 -- they come before what else a holder has, and no other holder has others
-told_by : (b : Bool) (here : Here) (holder h : ℕ) (xs : List Variable) → nat_eq h holder ≡ b
+children_told : (b : Bool) (here : Here) (holder h : ℕ) (xs : List Variable) → nat_eq h holder ≡ b
     → children_in (with_told holder xs (Some here)) h ≡ (if b then Some xs else children_in (Some here) h)
-told_by true here holder h xs is =
+children_told true here holder h xs is =
     let put : variables_at h (with_variables holder xs here.told) ≡ Some xs = subst (λ n. variables_at n (with_variables holder xs here.told) ≡ Some xs) (sym (eqb-true h holder is)) (variables-put holder xs here.told) in
     ap (λ (o : Option (List Variable)). first_of o (children_in (Some (record { moment = here.moment; later = here.later; told = [] })) h)) put
-told_by false here holder h xs is =
+children_told false here holder h xs is =
     ap (λ (o : Option (List Variable)). first_of o (children_in (Some (record { moment = here.moment; later = here.later; told = [] })) h)) (variables-of_others holder h xs here.told is)
 
 -- all else is as it was
@@ -272,23 +372,23 @@ stays_told : (o : Option Here) (holder h : ℕ) (xs : List Variable) → why_unt
 stays_told None holder h xs heard = absurd (cc heard)
 stays_told (Some here) holder h xs heard =
     stays_by (nat_eq h holder) (children_in (Some here) holder) (children_in (Some here) h) (children_in (with_told holder xs (Some here)) h) xs
-    (told_by (nat_eq h holder) here holder h xs refl)
+    (children_told (nat_eq h holder) here holder h xs refl)
     (λ is. ap (children_in (Some here)) (eqb-true h holder is))
     (unheard (children_in (Some here) holder) (length here.told) heard)
 
 -- ---- the laws
 
 pub counts-live : Counts shown_live FollowsLive
-counts-live v w a r f = f.acts
+counts-live v w a r f = ap (λ (u : LiveState). u.acts) f.view
 
 pub remembers-live : Remembers shown_live FollowsLive
-remembers-live v w a r f = f.last
+remembers-live v w a r f = ap (λ (u : LiveState). u.last) f.view
 
 pub answers-live : Answers shown_live FollowsLive
-answers-live v w a r f = f.may
+answers-live v w a r f = subst (λ (reply : Reply). IsTrue (may_answer v.state a reply)) (sym f.reply) (may_reply a v)
 
 pub moves-live : Moves shown_live FollowsLive
-moves-live v w a r f = f.state
+moves-live v w a r f = ap (λ (u : LiveState). u.state) f.view
 
 lines_set : (a : Act) (set : List (OfSource ℕ)) (key : SourceKey) → lines_in (set_after a set) key ≡ lines_after a (lines_in set) key
 lines_set to_start set key = refl
@@ -300,10 +400,13 @@ lines_set (to_assign holder name text) set key = refl
 lines_set to_end set key = refl
 
 pub sets_lines-live : SetsLines shown_live FollowsLive
-sets_lines-live v w a r f key = ap (λ s. lines_in s key) f.set ∙ lines_set a v.set key
+sets_lines-live v w a r f key = ap (λ (u : LiveState). lines_in u.set key) f.view ∙ lines_set a v.set key
 
 same_shown : (v w : LiveState) (a : Act) (r : Reply) → FollowsLive v a r w → IsTrue (keeps_answers a r) → now_shown w.state w.here ≡ now_shown v.state v.here
-same_shown v w a r f k = ap (λ s. now_shown s w.here) (f.state ∙ same_state v.state a r (keeps_too a r k)) ∙ ap (λ here. now_shown v.state here) (same_here v a r w.here k f.here)
+same_shown v w a r f k =
+    ap (λ (u : LiveState). now_shown u.state u.here) f.view
+    ∙ ap (λ s. now_shown s (here_after a v)) (same_state v.state a r (keeps_too a r k))
+    ∙ ap (λ here. now_shown v.state here) (same_here a r v k)
 
 -- of what is shown before and after
 same_frames : (v w : LiveState) → now_shown w.state w.here ≡ now_shown v.state v.here → SameFrames (shown_live v) (shown_live w)
@@ -316,37 +419,44 @@ same_frames v w same = record {
 shown_stays : (v w : LiveState) → w.state ≡ v.state → w.here ≡ v.here → FramesStay (shown_live v) (shown_live w)
 shown_stays v w state here = frames-stay (shown_live v) (shown_live w) (same_frames v w (ap (λ s. now_shown s w.here) state ∙ ap (λ o. now_shown v.state o) here))
 
-told_stays : (v w : LiveState) → w.state ≡ v.state → TellsVariables v w.here → FramesStay (shown_live v) (shown_live w)
-told_stays v w state tells =
-    let shown : now_shown w.state w.here ≡ with_told tells.holder tells.variables (now_shown v.state v.here) =
-    ap (λ s. now_shown s w.here) state ∙ ap (λ o. now_shown v.state o) tells.here ∙ told_now v.state v.here tells.holder tells.variables in
+told_stays : (v w : LiveState) (holder : ℕ) (xs : List Variable) → w.state ≡ v.state → why_untold (now_shown v.state v.here) holder ≡ None → w.here ≡ with_told holder xs v.here → FramesStay (shown_live v) (shown_live w)
+told_stays v w holder xs state heard here =
+    let shown : now_shown w.state w.here ≡ with_told holder xs (now_shown v.state v.here) =
+    ap (λ s. now_shown s w.here) state ∙ ap (λ o. now_shown v.state o) here ∙ told_now v.state v.here holder xs in
     record {
-      frames = λ thread x given. ap (λ o. frames_in o thread) shown ∙ frames_told (now_shown v.state v.here) tells.holder tells.variables thread ∙ given;
-      scopes = λ frame x given. ap (λ o. scopes_in o frame) shown ∙ scopes_told (now_shown v.state v.here) tells.holder tells.variables frame ∙ given;
-      children = λ h x given. ap (λ o. children_in o h) shown ∙ stays_told (now_shown v.state v.here) tells.holder h tells.variables tells.heard x given;
+      frames = λ thread x given. ap (λ o. frames_in o thread) shown ∙ frames_told (now_shown v.state v.here) holder xs thread ∙ given;
+      scopes = λ frame x given. ap (λ o. scopes_in o frame) shown ∙ scopes_told (now_shown v.state v.here) holder xs frame ∙ given;
+      children = λ h x given. ap (λ o. children_in o h) shown ∙ stays_told (now_shown v.state v.here) holder h xs heard x given;
     }
 
-nothing_stays : (v w : LiveState) → w.state ≡ v.state → (w.here ≡ v.here) ⊎ TellsVariables v w.here → FramesStay (shown_live v) (shown_live w)
-nothing_stays v w state (inl here) = shown_stays v w state here
-nothing_stays v w state (inr tells) = told_stays v w state tells
+-- a poll that keeps the frames showed no other stop
+heard_stays : (v w : LiveState) (c : Coming) (unheard : Option Dropped) → w.state ≡ v.state → why_unheard c v ≡ unheard → w.here ≡ here_with c unheard v.here
+    → IsTrue (keeps_frames to_poll (happened (unless_dropped unheard (happening_by c)))) → FramesStay (shown_live v) (shown_live w)
+heard_stays v w (coming.Output category text) unheard state is here k = shown_stays v w state here
+heard_stays v w (coming.Stopped reason thread shows later) None state is here k = absurd (true≢false (sym k))
+heard_stays v w (coming.Stopped reason thread shows later) (Some x) state is here k = shown_stays v w state here
+heard_stays v w (coming.Continued thread) unheard state is here k = shown_stays v w state here
+heard_stays v w (coming.Exited code) unheard state is here k = shown_stays v w state here
+heard_stays v w (coming.Learned text value holder) unheard state is here k = shown_stays v w state here
+heard_stays v w (coming.Variables holder variables) None state is here k = told_stays v w holder variables state is here
+heard_stays v w (coming.Variables holder variables) (Some x) state is here k = shown_stays v w state here
+heard_stays v w (coming.Sources more) unheard state is here k = shown_stays v w state here
 
-frames_by : (v w : LiveState) (a : Act) (r : Reply) → w.state ≡ v.state → ShowsAfter v a r w.here → IsTrue (keeps_frames a r) → FramesStay (shown_live v) (shown_live w)
-frames_by v w to_start r state shows k = shown_stays v w state shows
-frames_by v w (to_resume how thread) r state shows k = shown_stays v w state shows
-frames_by v w to_pause r state shows k = shown_stays v w state shows
-frames_by v w to_poll done state shows k = shown_stays v w state shows
-frames_by v w to_poll refused state shows k = shown_stays v w state shows
-frames_by v w to_poll (happened happening.Nothing) state shows k = nothing_stays v w state shows
-frames_by v w to_poll (happened (happening.Output category text)) state shows k = shown_stays v w state shows
-frames_by v w to_poll (happened (happening.Stopped reason thread)) state shows k = absurd (true≢false (sym k))
-frames_by v w to_poll (happened (happening.Continued thread)) state shows k = shown_stays v w state shows
-frames_by v w to_poll (happened (happening.Exited code)) state shows k = shown_stays v w state shows
-frames_by v w (to_set_breakpoints source lines) r state shows k = shown_stays v w state shows
-frames_by v w (to_assign holder name text) r state shows k = absurd (true≢false (sym k))
-frames_by v w to_end r state shows k = shown_stays v w state shows
+poll_stays : (v w : LiveState) (o : Option Coming) → w.state ≡ v.state → w.here ≡ here_by o (why_not_heard o v) v.here → IsTrue (keeps_frames to_poll (happened (told_by o v))) → FramesStay (shown_live v) (shown_live w)
+poll_stays v w None state here k = shown_stays v w state here
+poll_stays v w (Some c) state here k = heard_stays v w c (why_unheard c v) state refl here k
+
+frames_by : (v w : LiveState) (a : Act) (r : Reply) → r ≡ reply_to a v → w.state ≡ v.state → w.here ≡ here_after a v → IsTrue (keeps_frames a r) → FramesStay (shown_live v) (shown_live w)
+frames_by v w to_start r reply state here k = shown_stays v w state here
+frames_by v w (to_resume how thread) r reply state here k = shown_stays v w state here
+frames_by v w to_pause r reply state here k = shown_stays v w state here
+frames_by v w to_poll r reply state here k = poll_stays v w v.mail.coming state here (subst (λ (x : Reply). IsTrue (keeps_frames to_poll x)) reply k)
+frames_by v w (to_set_breakpoints source lines) r reply state here k = shown_stays v w state here
+frames_by v w (to_assign holder name text) r reply state here k = absurd (true≢false (sym k))
+frames_by v w to_end r reply state here k = shown_stays v w state here
 
 pub keeps_frames-live : KeepsFrames shown_live FollowsLive
-keeps_frames-live v w a r f k = frames_by v w a r (f.state ∙ same_state v.state a r k) f.here k
+keeps_frames-live v w a r f k = frames_by v w a r f.reply (ap (λ (u : LiveState). u.state) f.view ∙ same_state v.state a r k) (ap (λ (u : LiveState). u.here) f.view) k
 
 same_sources : (v w : LiveState) → w.base ≡ v.base → SameSources (shown_live v) (shown_live w)
 same_sources v w base = record {
@@ -357,38 +467,42 @@ same_sources v w base = record {
 base_stays : (v w : LiveState) → w.base ≡ v.base → SourcesStay (shown_live v) (shown_live w)
 base_stays v w base = sources-stay (shown_live v) (shown_live w) (same_sources v w base)
 
-more_stays : (v w : LiveState) → (w.base ≡ v.base) ⊎ TellsSources v.base w.base → SourcesStay (shown_live v) (shown_live w)
-more_stays v w (inl base) = base_stays v w base
-more_stays v w (inr tells) =
-    let stay = sources_of-stay tells.more v.base in
+more_stays : (v w : LiveState) (c : Coming) (unheard : Option Dropped) → w.base ≡ sources_with c unheard v.base → SourcesStay (shown_live v) (shown_live w)
+more_stays v w (coming.Output category text) unheard base = base_stays v w base
+more_stays v w (coming.Stopped reason thread shows later) unheard base = base_stays v w base
+more_stays v w (coming.Continued thread) unheard base = base_stays v w base
+more_stays v w (coming.Exited code) unheard base = base_stays v w base
+more_stays v w (coming.Learned text value holder) unheard base = base_stays v w base
+more_stays v w (coming.Variables holder variables) unheard base = base_stays v w base
+more_stays v w (coming.Sources more) None base =
+    let stay = sources_of-stay more v.base in
     record {
-      sources = λ index x given. ap (λ (b : Played). slice_get (shown_of b).sources index) tells.base ∙ stay.sources index x given;
-      content = λ index x given. ap (λ (b : Played). (shown_of b).content index) tells.base ∙ stay.content index x given;
+      sources = λ index x given. ap (λ (b : Played). slice_get (shown_of b).sources index) base ∙ stay.sources index x given;
+      content = λ index x given. ap (λ (b : Played). (shown_of b).content index) base ∙ stay.content index x given;
     }
+more_stays v w (coming.Sources more) (Some x) base = base_stays v w base
 
-sources_by : (v w : LiveState) (a : Act) (r : Reply) → SourcesAfter v.base a r w.base → SourcesStay (shown_live v) (shown_live w)
-sources_by v w to_start r base = base_stays v w base
-sources_by v w (to_resume how thread) r base = base_stays v w base
-sources_by v w to_pause r base = base_stays v w base
-sources_by v w to_poll done base = base_stays v w base
-sources_by v w to_poll refused base = base_stays v w base
-sources_by v w to_poll (happened happening.Nothing) base = more_stays v w base
-sources_by v w to_poll (happened (happening.Output category text)) base = base_stays v w base
-sources_by v w to_poll (happened (happening.Stopped reason thread)) base = base_stays v w base
-sources_by v w to_poll (happened (happening.Continued thread)) base = base_stays v w base
-sources_by v w to_poll (happened (happening.Exited code)) base = base_stays v w base
-sources_by v w (to_set_breakpoints source lines) r base = base_stays v w base
-sources_by v w (to_assign holder name text) r base = base_stays v w base
-sources_by v w to_end r base = base_stays v w base
+polled_stays : (v w : LiveState) (o : Option Coming) (unheard : Option Dropped) → w.base ≡ sources_by o unheard v.base → SourcesStay (shown_live v) (shown_live w)
+polled_stays v w None unheard base = base_stays v w base
+polled_stays v w (Some c) unheard base = more_stays v w c unheard base
+
+sources_stay_by : (v w : LiveState) (a : Act) → w.base ≡ sources_after a v → SourcesStay (shown_live v) (shown_live w)
+sources_stay_by v w to_start base = base_stays v w base
+sources_stay_by v w (to_resume how thread) base = base_stays v w base
+sources_stay_by v w to_pause base = base_stays v w base
+sources_stay_by v w to_poll base = polled_stays v w v.mail.coming (why_not_heard v.mail.coming v) base
+sources_stay_by v w (to_set_breakpoints source lines) base = base_stays v w base
+sources_stay_by v w (to_assign holder name text) base = base_stays v w base
+sources_stay_by v w to_end base = base_stays v w base
 
 pub keeps_sources-live : KeepsSources shown_live FollowsLive
-keeps_sources-live v w a r f = sources_by v w a r f.base
+keeps_sources-live v w a r f = sources_stay_by v w a (ap (λ (u : LiveState). u.base) f.view)
 
 pub keeps_answers-live : KeepsAnswers shown_live FollowsLive
 keeps_answers-live v w a r f k =
     let same : now_shown w.state w.here ≡ now_shown v.state v.here = same_shown v w a r f k in
-    let known : w.learned ≡ v.learned = same_learned v.learned a r w.learned k f.learned in
-    let base : w.base ≡ v.base = same_base v.base a r w.base k f.base in
+    let known : w.learned ≡ v.learned = ap (λ (u : LiveState). u.learned) f.view ∙ same_learned a r v k in
+    let base : w.base ≡ v.base = ap (λ (u : LiveState). u.base) f.view ∙ same_base a r v k in
     record {
       threads = ap threads_in same;
       frames = same_frames v w same;
@@ -430,7 +544,7 @@ children_set : (o : Option Here) (holder h : ℕ) (name value : List ℕ) (xs : 
     → children_in (with_told holder (with_value name value xs) o) h ≡ children_after holder name value (children_in o) h
 children_set None holder h name value xs is = absurd (cc is)
 children_set (Some here) holder h name value xs is =
-    told_by (nat_eq h holder) here holder h (with_value name value xs) refl
+    children_told (nat_eq h holder) here holder h (with_value name value xs) refl
     ∙ set_by (nat_eq h holder) (children_in (Some here) holder) (children_in (Some here) h) name value xs (λ e. ap (children_in (Some here)) (eqb-true h holder e)) is
 
 -- of any text that the host told
@@ -438,19 +552,40 @@ same_assigned : (told : Option (List ℕ)) (b : Bool) (o : Option (List Variable
 same_assigned None b o name value n = refl
 same_assigned (Some text) b o name value n = assigned-by b o name value n text
 
+-- what is set was told, in a holder that is shown
+is_told : (told : Option (List ℕ)) (name : List ℕ) (o : Option (List Variable)) → IsSome (assigned_by told name o) → told ≡ Some (unwrap_or told [])
+is_told None name o h = absurd (cc h)
+is_told (Some value) name o h = refl
+
+is_shown : (told : Option (List ℕ)) (name : List ℕ) (o : Option (List Variable)) → IsSome (assigned_by told name o) → o ≡ Some (unwrap_or o [])
+is_shown None name o h = absurd (cc h)
+is_shown (Some value) name None h = absurd (cc h)
+is_shown (Some value) name (Some xs) h = refl
+
+is_named : (told : Option (List ℕ)) (name : List ℕ) (o : Option (List Variable)) → IsSome (assigned_by told name o) → IsSome (variable_named name (unwrap_or o []))
+is_named None name o h = absurd (cc h)
+is_named (Some value) name None h = absurd (cc h)
+is_named (Some value) name (Some xs) h = assigned-there (Some xs) name value h
+
 pub sets_values-live : SetsValues shown_live FollowsLive
 sets_values-live v w holder name text r f =
-    let sets = f.here in
     let before = now_shown v.state v.here in
-    let changed : List Variable = with_value name sets.value sets.variables in
+    let told : Option (List ℕ) = value_told v.learned text in
+    let there : Option (List Variable) = children_in before holder in
+    let value : List ℕ = value_for text v in
+    let variables : List Variable = unwrap_or there [] in
+    let changed : List Variable = variables_set holder name text v in
+    let known_value : told ≡ Some value = is_told told name there f.asked in
+    let has : there ≡ Some variables = is_shown told name there f.asked in
     let shown : now_shown w.state w.here ≡ with_told holder changed before =
-    ap (λ s. now_shown s w.here) (f.state ∙ same_assigns v.state holder name text r) ∙ ap (λ o. now_shown v.state o) sets.here ∙ told_now v.state v.here holder changed in
-    let known : w.learned ≡ v.learned = f.learned in
-    let children : (h : ℕ) → children_in (now_shown w.state w.here) h ≡ children_after holder name sets.value (children_in before) h =
-    λ h. ap (λ o. children_in o h) shown ∙ children_set before holder h name sets.value sets.variables sets.shown in
+    ap (λ (u : LiveState). now_shown u.state u.here) f.view ∙ ap (λ s. now_shown s (with_told holder changed v.here)) (same_assigns v.state holder name text r) ∙ told_now v.state v.here holder changed in
+    let known : w.learned ≡ v.learned = ap (λ (u : LiveState). u.learned) f.view in
+    let base : w.base ≡ v.base = ap (λ (u : LiveState). u.base) f.view in
+    let children : (h : ℕ) → children_in (now_shown w.state w.here) h ≡ children_after holder name value (children_in before) h =
+    λ h. ap (λ o. children_in o h) shown ∙ children_set before holder h name value variables has in
     record {
-      value = sets.value;
-      told = ap (λ t. assigned_by t name (children_in before holder)) sets.told ∙ ap (assigned_of name sets.value) sets.shown ∙ value_there (variable_named name sets.variables) sets.value sets.there;
+      value = value;
+      told = ap (λ t. assigned_by t name there) known_value ∙ ap (assigned_of name value) has ∙ value_there (variable_named name variables) value (is_named told name there f.asked);
       set = record {
         threads = ap threads_in shown ∙ threads_told before holder changed;
         frames = λ thread. ap (λ o. frames_in o thread) shown ∙ frames_told before holder changed thread;
@@ -458,8 +593,8 @@ sets_values-live v w holder name text r f =
         children = children;
         assigned = λ h called given. ap (λ l. assigned_by (value_told l given) called (children_in (now_shown w.state w.here) h)) known
             ∙ ap (assigned_by (value_told v.learned given) called) (children h)
-            ∙ same_assigned (value_told v.learned given) (nat_eq h holder) (children_in before h) name sets.value called;
-        sources = same_sources v w f.base;
-        verify = λ source lines. ap (λ (b : Played). (shown_of b).verify source lines) f.base;
+            ∙ same_assigned (value_told v.learned given) (nat_eq h holder) (children_in before h) name value called;
+        sources = same_sources v w base;
+        verify = λ source lines. ap (λ (b : Played). (shown_of b).verify source lines) base;
       };
     }

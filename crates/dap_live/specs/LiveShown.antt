@@ -1,4 +1,4 @@
--- What a debuggee that a host feeds is seen as, and what it shows: what the host told last.
+-- What a debuggee that a host feeds is seen as, and what it shows: what the host told last. Its mail is not shown.
 -- This profile's choice.
 use Rattle.std.specs.Prelude.{ℕ, ℤ, ◌≤◌, Bool, ◌&&◌, List, [], ◌∷◌, length, Option, Some, None, option_map, option_and_then, bytes_eq, if◌then◌else◌}
 use Rattle.dap_debuggee.specs.Shown.{Shown, Last}
@@ -15,6 +15,7 @@ use Rattle.dap_replay.specs.Played.{Played, is_untold, shown_of, lines_in, first
 use Rattle.dap_tables.specs.SourceMap.{OfSource}
 use Rattle.dap_live.specs.declared.held.Learned.{Learned}
 use Rattle.dap_live.specs.declared.here.Here.{Here}
+use Rattle.dap_live.specs.MailState.{MailState, no_mail}
 
 -- ---- the view
 
@@ -30,6 +31,10 @@ pub record LiveState : Type 0 where
   pub set : List (OfSource ℕ)
   pub acts : ℕ
   pub last : Option Last
+  pub mail : MailState
+
+abbrev pub with_mail : MailState → LiveState → LiveState
+with_mail mail v = record v { mail = mail }
 
 -- a moment has no more sources than the debuggee
 abbrev pub HasFewSources : Played → Played → Type 0
@@ -49,6 +54,7 @@ fresh_live base = record {
   set = [];
   acts = 0;
   last = None;
+  mail = no_mail;
 }
 
 -- ---- queries

@@ -1,118 +1,45 @@
--- What comes of what a host says: what is told, why it is dropped, and what is known and shown then. Only private clauses cite this file.
-use Rattle.std.specs.Prelude.{◌≡◌, ◌≢◌, ℕ, List, Option, Some, None, IsTrue}
-use Rattle.std.specs.Option.{IsSome}
-use Rattle.dap_debuggee.specs.Laws.{with_value}
+-- What private functions give and leave that hear what a host said. Only private clauses cite this file.
+use Rattle.std.specs.Prelude.{◌+◌, ◌%◌, ◌^◌, Option, Some, None}
+use Rattle.dap_debuggee.specs.Laws.{state_after}
+use Rattle.dap_debuggee.specs.Shown.{to_poll, happened}
+use Rattle.dap_debuggee.specs.declared.answers.Asked.TheVariants as ask
 use Rattle.dap_debuggee.specs.declared.answers.Happening.{Happening}
 use Rattle.dap_debuggee.specs.declared.answers.Happening.TheVariants as happening
-use Rattle.dap_debuggee.specs.declared.answers.Variable.{Variable}
-use Rattle.dap_replay.specs.Played.{Played, with_sources_of}
 use Rattle.dap_live.specs.declared.held.Heard.{Heard}
-use Rattle.dap_live.specs.declared.held.Learned.{Learned}
-use Rattle.dap_live.specs.declared.here.Here.{Here}
 use Rattle.dap_live.specs.declared.mail.Coming.{Coming}
-use Rattle.dap_live.specs.declared.mail.Coming.TheVariants as coming
 use Rattle.dap_live.specs.declared.mail.Dropped.{Dropped}
-use Rattle.dap_live.specs.declared.mail.HostAct.{HostAct}
-use Rattle.dap_live.specs.declared.mail.HostAct.TheVariants as act
-use Rattle.dap_live.specs.Dropping.{unless_dropped, why_unheard}
-use Rattle.dap_live.specs.LiveLaws.{with_told}
-use Rattle.dap_live.specs.LiveShown.{LiveState, children_in, now_shown}
-use Rattle.dap_live.specs.PrivateHeld.{ShowsFirst}
+use Rattle.dap_live.specs.Dropping.{heard, why_dropped}
+use Rattle.dap_live.specs.Hearing.{told_by, why_not_heard, learned_by, here_by, sources_by}
+use Rattle.dap_live.specs.LiveLaws.{noted}
+use Rattle.dap_live.specs.LiveShown.{LiveState}
 
-abbrev pub heard_so : Happening → Heard
-heard_so h = record { happening = h; dropped = None }
+-- a poll that gives this, counted and remembered
+abbrev pub polled : Happening → LiveState → LiveState
+polled h v = noted (record { asked = ask.Poll; reply = happened h }) v
 
 abbrev pub dropped_so : Dropped → Heard
 dropped_so why = record { happening = happening.Nothing; dropped = Some why }
 
-abbrev pub heard_or_dropped : Option Dropped → Happening → Heard
-heard_or_dropped None h = heard_so h
-heard_or_dropped (Some why) h = dropped_so why
+-- what comes of what happens, where it is no stop
+abbrev pub heard_in : LiveState → Happening → Heard
+heard_in v h = record { happening = heard v.state h; dropped = why_dropped v.state h }
 
--- what happens by what a host says
-abbrev pub happening_by : Coming → Happening
-happening_by (coming.Output category text) = happening.Output category text
-happening_by (coming.Stopped reason thread shows later) = happening.Stopped reason thread
-happening_by (coming.Continued thread) = happening.Continued thread
-happening_by (coming.Exited code) = happening.Exited code
-happening_by (coming.Learned text value holder) = happening.Nothing
-happening_by (coming.Variables holder variables) = happening.Nothing
-happening_by (coming.Sources more) = happening.Nothing
+abbrev pub after_happening : Happening → LiveState → LiveState
+after_happening h v = polled (heard v.state h) (record v { state = state_after v.state to_poll (happened (heard v.state h)); learned = None })
 
--- why a host that said this, or nothing, is not heard
-abbrev pub why_not_heard : Option Coming → LiveState → Option Dropped
-why_not_heard None v = None
-why_not_heard (Some c) v = why_unheard c v
+-- what comes of what a host said, or of nothing
+abbrev pub heard_of : Option Coming → LiveState → Heard
+heard_of c v = record { happening = told_by c v; dropped = why_not_heard c v }
 
--- what a poll gives of it: just that, unless it is dropped; nothing where nothing came
-abbrev pub told_by : Option Coming → LiveState → Happening
-told_by None v = happening.Nothing
-told_by (Some c) v = unless_dropped (why_unheard c v) (happening_by c)
-
--- what is known of a text then: nothing but what was told with it
-abbrev pub learned_with : Coming → Option Learned
-learned_with (coming.Output category text) = None
-learned_with (coming.Stopped reason thread shows later) = None
-learned_with (coming.Continued thread) = None
-learned_with (coming.Exited code) = None
-learned_with (coming.Learned text value holder) = Some (record { text = text; value = value; holder = holder })
-learned_with (coming.Variables holder variables) = None
-learned_with (coming.Sources more) = None
-
-abbrev pub learned_by : Option Coming → Option Learned
-learned_by None = None
-learned_by (Some c) = learned_with c
-
--- the moment of a stop is shown, and variables that are told, where they are not dropped; else what was
-abbrev pub ShowsWith : Coming → Option Dropped → Option Here → Option Here → Type 0
-ShowsWith (coming.Output category text) why before after = after ≡ before
-ShowsWith (coming.Stopped reason thread shows later) None before after = ShowsFirst shows later after
-ShowsWith (coming.Stopped reason thread shows later) (Some why) before after = after ≡ before
-ShowsWith (coming.Continued thread) why before after = after ≡ before
-ShowsWith (coming.Exited code) why before after = after ≡ before
-ShowsWith (coming.Learned text value holder) why before after = after ≡ before
-ShowsWith (coming.Variables holder variables) None before after = after ≡ with_told holder variables before
-ShowsWith (coming.Variables holder variables) (Some why) before after = after ≡ before
-ShowsWith (coming.Sources more) why before after = after ≡ before
-
-abbrev pub ShowsBy : Option Coming → Option Dropped → Option Here → Option Here → Type 0
-ShowsBy None why before after = after ≡ before
-ShowsBy (Some c) why before after = ShowsWith c why before after
-
--- sources come behind those there were, where they are not dropped
-abbrev pub sources_with : Coming → Option Dropped → Played → Played
-sources_with (coming.Output category text) why base = base
-sources_with (coming.Stopped reason thread shows later) why base = base
-sources_with (coming.Continued thread) why base = base
-sources_with (coming.Exited code) why base = base
-sources_with (coming.Learned text value holder) why base = base
-sources_with (coming.Variables holder variables) why base = base
-sources_with (coming.Sources more) None base = with_sources_of more base
-sources_with (coming.Sources more) (Some why) base = base
-
-abbrev pub sources_by : Option Coming → Option Dropped → Played → Played
-sources_by None why base = base
-sources_by (Some c) why base = sources_with c why base
-
--- what is shown is the same
-pub record SameShown (v w : LiveState) : Type 0 where
-  pub here : w.here ≡ v.here
-  pub base : w.base ≡ v.base
-
-pub record StaysButLearned (v w : LiveState) : Type 0 where
-  pub here : w.here ≡ v.here
-  pub base : w.base ≡ v.base
-  pub state : w.state ≡ v.state
-  pub set : w.set ≡ v.set
-
--- ---- a value that is set
-
--- an act that sets a value where variables are shown
-abbrev pub SetsShown : HostAct → LiveState → Type 0
-SetsShown (act.Assign holder name value) v = IsSome (children_in (now_shown v.state v.here) holder)
-SetsShown _ v = ⊥
-
--- the holder of the act has these variables then
-abbrev pub HasChanged : HostAct → LiveState → ℕ → List Variable → Type 0
-HasChanged (act.Assign holder name value) v at after = (at ≡ holder) × ((xs : List Variable) → children_in (now_shown v.state v.here) holder ≡ Some xs → after ≡ with_value name value xs)
-HasChanged _ v at after = ⊥
+-- all but the mail
+abbrev pub after_hearing : Option Coming → LiveState → LiveState
+after_hearing c v = record {
+  base = sources_by c (why_not_heard c v) v.base;
+  here = here_by c (why_not_heard c v) v.here;
+  learned = learned_by c;
+  state = state_after v.state to_poll (happened (told_by c v));
+  set = v.set;
+  acts = (v.acts + 1) % 2 ^ 64;
+  last = Some (record { asked = ask.Poll; reply = happened (told_by c v) });
+  mail = v.mail;
+}

@@ -1,13 +1,13 @@
--- How the code holds the last act, and what private functions take and show. Only private clauses and the view of the debuggee cite this file.
-use Rattle.std.specs.Prelude.{◌≡◌, Bool, [], Option, Some}
-use Rattle.dap_debuggee.specs.Shown.{Last, Reply, to_start, done, refused, happened}
+-- How the code holds the last act and the acts for the host, and what private functions change. Only private clauses and the views of the debuggee and its mail cite this file.
+use Rattle.std.specs.Prelude.{Bool, List, [], ◌∷◌, ◌++◌, Option, if◌then◌else◌}
+use Rattle.dap_debuggee.specs.Shown.{Last, done, refused, happened}
 use Rattle.dap_debuggee.specs.declared.answers.Asked.{Asked}
 use Rattle.dap_debuggee.specs.declared.answers.Asked.TheVariants as ask
 use Rattle.dap_live.specs.declared.mail.HostAct.{HostAct}
 use Rattle.dap_live.specs.declared.mail.HostAct.TheVariants as act
 use Rattle.dap_debuggee.specs.declared.answers.Happening.{Happening}
-use Rattle.dap_debuggee.specs.declared.answers.Happening.TheVariants as happening
-use Rattle.dap_replay.specs.Played.{Played, FollowsPlayed}
+use Rattle.dap_replay.specs.Played.{Played}
+use Rattle.dap_live.specs.declared.held.Learned.{Learned}
 use Rattle.dap_live.specs.declared.held.LiveLast.{LiveLast}
 use Rattle.dap_live.specs.declared.held.LiveLast.TheVariants.{Done, Refused, Polled}
 use Rattle.dap_live.specs.declared.here.Here.{Here}
@@ -36,13 +36,9 @@ with_here here v = record v { here = here }
 abbrev pub with_base : Played → LiveState → LiveState
 with_base base v = record v { base = base }
 
-abbrev pub IsNoStop : Happening → Type 0
-IsNoStop (happening.Stopped reason thread) = ⊥
-IsNoStop _ = Unit {0}
+abbrev pub with_learned : Option Learned → LiveState → LiveState
+with_learned learned v = record v { learned = learned }
 
--- the first moment of what the host told is shown, and nothing is told of it yet
-pub record ShowsFirst (shows : Played) (later : Bool) (after : Option Here) : Type 0 where
-  pub moment : Played
-  pub reply : Reply
-  pub started : FollowsPlayed shows to_start reply moment
-  pub here : after ≡ Some (record { moment = moment; later = later; told = [] })
+-- the end comes behind the others, where it is asked for
+abbrev pub acts_held : List HostAct → Bool → List HostAct
+acts_held acts is_to_end = if is_to_end then acts ++ act.End ∷ [] else acts

@@ -8,7 +8,6 @@ use dap_replay::Recorded;
 use dap_tables::SourceMap;
 use std::alloc::Global;
 use std::marker::Model;
-use std::rc::Rc;
 
 /// What was asked last, and the answer.
 #[derive(Drop)]
@@ -49,7 +48,8 @@ pub struct Live {
     pub(crate) set: SourceMap<u32>,
     pub(crate) acts: u64,
     pub(crate) last: Option<LiveLast>,
-    pub(crate) mail: Rc<Mail>,
+    /// What is left for the host, and what the host left.
+    pub(crate) mail: Mail,
 }
 
 impl Model for Live {
@@ -67,6 +67,7 @@ impl Model for Live {
       set = l.set;
       acts = l.acts;
       last = option_map last_of l.last;
+      mail = l.mail;
     } };
 
     ghost invariant = { λ l. IsFew l.base l.here };
@@ -77,8 +78,8 @@ impl Live {
     ghost use Rattle.dap_live.specs.LiveShown.{fresh_live};
 
     /// A debuggee that is not started, with the sources of a recording, and lines where those have lines. The moments of
-    /// that recording do not matter. The mail is shared with the host.
-    pub fn open(alloc: Global, base: Recorded, mail: Rc<Mail>) -> Live
+    /// that recording do not matter. There is no mail.
+    pub fn open(alloc: Global, base: Recorded) -> Live
         ensures { result ≡ fresh_live base }
     {
         Live {
@@ -89,7 +90,7 @@ impl Live {
             set: SourceMap::new(alloc),
             acts: 0,
             last: None,
-            mail,
+            mail: Mail::new(alloc),
         }
     }
 }

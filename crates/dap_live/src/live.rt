@@ -1,21 +1,22 @@
 //! The debuggee: what it does when it is asked, and what it tells.
 ghost use Rattle.std.specs.Prelude.{◌≡◌, ◌≤◌, ◌+◌, ◌↔◌, IfOk, IsTrue, Some, None, length, if◌then◌else◌};
 ghost use Rattle.dap_debuggee.specs.Laws.{state_after};
-ghost use Rattle.dap_debuggee.specs.Shown.{Reply, to_poll, to_start, happened};
+ghost use Rattle.dap_debuggee.specs.Shown.{to_poll, happened};
 ghost use Rattle.dap_live.specs.Dropping.{why_no_room, why_too_wide};
 ghost use Rattle.dap_live.specs.declared.mail.Dropped.{Dropped};
-ghost use Rattle.dap_replay.specs.Played.{FollowsPlayed, Played, shown_of};
+ghost use Rattle.dap_replay.specs.Played.{shown_of};
+ghost use Rattle.dap_live.specs.Hearing.{first_moment};
 ghost use Rattle.dap_live.specs.LiveShown.{HasFewSources};
 ghost use Rattle.dap_live.specs.PrivateHeld.{asked_of_act};
 
 use crate::dropping::why_dropped;
 use crate::held::{Heard, Learned, Live, LiveLast};
 use crate::here::Here;
-use crate::mail::{Coming, Dropped, HostAct};
+use crate::mail::{Coming, Dropped, HostAct, Mail};
 use dap_command::SourceKey;
 use dap_debuggee::{
-    Asked, Assigned, Debuggee, DebuggeeFault, Evaluation, Frame, Happening, How, Scope, Source,
-    State, Thread, Variable,
+    Asked, Assigned, Debuggee, DebuggeeFault, Evaluation, Frame, Happening, HasMail, How, Scope,
+    Source, State, Thread, Variable,
 };
 use dap_json::{List, Text};
 use dap_replay::Recorded;
@@ -82,7 +83,7 @@ fn has_few_sources(base: &Recorded, shows: &Recorded) -> bool
 
 /// The same recording, started, unless it is already.
 fn started(alloc: Global, mut shows: Recorded) -> Recorded
-    ensures started { (reply : Reply) × FollowsPlayed shows to_start reply result }
+    ensures started { result ≡ first_moment shows }
     ensures sources { length (shown_of result).sources ≡ length (shown_of shows).sources }
 {
     // Refused where it is started already.
@@ -99,17 +100,21 @@ fn has_room(base: &Recorded, more: &Recorded) -> bool
 }
 
 impl Live {
-    ghost use Rattle.std.specs.Prelude.{◌≡◌, ◌≢◌, ◌≤◌, ◌+◌, length, Some, None, OnOk, OnErr, IfOk, option_map};
+    ghost use Rattle.std.specs.Prelude.{◌≡◌, ◌≤◌, ◌+◌, length, Some, None, OnOk, OnErr, IfOk, option_map};
     ghost use Rattle.std.specs.Option.{IsSome};
     ghost use Rattle.dap_debuggee.specs.Laws.{is_short};
-    ghost use Rattle.dap_debuggee.specs.Shown.{to_poll, to_set_breakpoints, to_assign, done, happened};
+    ghost use Rattle.dap_debuggee.specs.Shown.{to_set_breakpoints, to_assign, done};
     ghost use Rattle.dap_debuggee.specs.declared.answers.Happening.{Happening};
     ghost use Rattle.dap_replay.specs.Played.{shown_of, with_sources_of};
-    ghost use Rattle.dap_live.specs.LiveShown.{shown_live, HasFewSources, IsFew, now_shown, children_in, told_of, value_told};
-    ghost use Rattle.dap_live.specs.LiveLaws.{FollowsLive, with_told, noted};
-    ghost use Rattle.dap_live.specs.Dropping.{why_dropped, why_not_shown, why_no_room, why_untold};
-    ghost use Rattle.dap_live.specs.PrivateHeld.{last_of, done_by, with_here, with_base, IsNoStop, ShowsFirst};
-    ghost use Rattle.dap_live.specs.PrivateHearing.{heard_so, dropped_so, heard_or_dropped, why_not_heard, told_by, learned_by, sources_by, ShowsBy, SameShown, StaysButLearned, SetsShown, HasChanged};
+    ghost use Rattle.dap_live.specs.declared.mail.Coming.{Coming};
+    ghost use Rattle.dap_live.specs.declared.mail.HostAct.{HostAct};
+    ghost use Rattle.dap_live.specs.Dropping.{why_untold};
+    ghost use Rattle.dap_live.specs.Hearing.{with_told};
+    ghost use Rattle.dap_live.specs.LiveLaws.{FollowsLive, noted, value_for, variables_set};
+    ghost use Rattle.dap_live.specs.LiveShown.{shown_live, IsFew, now_shown, children_in, told_of, value_told, with_mail};
+    ghost use Rattle.dap_live.specs.MailState.{with_act};
+    ghost use Rattle.dap_live.specs.PrivateHeld.{last_of, done_by, with_here, with_base, with_learned};
+    ghost use Rattle.dap_live.specs.PrivateHearing.{polled, dropped_so, heard_in, after_happening, heard_of, after_hearing};
 
     /// Counts and remembers an act.
     fn note(&mut self, last: LiveLast)
@@ -182,10 +187,8 @@ impl Live {
 
     /// Nothing happened, and the host may have told what a text comes to.
     fn see_nothing(&mut self, learned: Option<Learned>) -> Heard
-        ensures learned { self.new.learned ≡ learned }
-        ensures stays { StaysButLearned self.old self.new }
-        ensures heard { result ≡ heard_so Happening.Nothing }
-        ensures follows { FollowsLive self.old to_poll (happened Happening.Nothing) self.new }
+        ensures heard { result ≡ record { happening = Happening.Nothing; dropped = None } }
+        ensures view { self.new ≡ polled Happening.Nothing (with_learned learned self.old) }
     {
         self.learned = learned;
         self.note(LiveLast::Polled(Happening::Nothing));
@@ -198,9 +201,7 @@ impl Live {
     /// Nothing happened, since what the host says is dropped.
     fn drop_it(&mut self, why: Dropped) -> Heard
         ensures dropped { result ≡ dropped_so why }
-        ensures forgotten { self.new.learned ≡ None }
-        ensures stays { StaysButLearned self.old self.new }
-        ensures follows { FollowsLive self.old to_poll (happened Happening.Nothing) self.new }
+        ensures view { self.new ≡ polled Happening.Nothing (with_learned None self.old) }
     {
         let _ = self.see_nothing(None);
         Heard {
@@ -210,13 +211,10 @@ impl Live {
     }
 
     /// Tells what the host says, or nothing where that is dropped. It is no stop.
-    #[tactic(auto, using(crate::proofs::Shows::same_shown, crate::proofs::Shows::same_sources, crate::proofs::Shows::none_learned))]
     fn see(&mut self, happening: Happening) -> Result<Heard, AllocError>
-        requires { IsNoStop happening }
-        ensures heard { IfOk result (λ h. h ≡ heard_or_dropped (why_dropped self.old.state happening) happening) }
-        ensures forgotten { OnOk result (self.new.learned ≡ None) }
-        ensures stays { OnOk result (SameShown self.old self.new) }
-        ensures follows { IfOk result (λ h. FollowsLive self.old to_poll (happened h.happening) self.new) }
+        ensures heard { IfOk result (λ h. h ≡ heard_in self.old happening) }
+        ensures view { OnOk result (self.new ≡ after_happening happening self.old) }
+        ensures memory { OnErr result (self.new ≡ self.old) }
         ensures in_range { IfOk result (λ h. IsTrue (is_short h.happening)) }
     {
         if let Some(why) = why_dropped(self.state, &happening) {
@@ -241,12 +239,9 @@ impl Live {
         shows: Recorded,
         more: bool,
     ) -> Result<Heard, AllocError>
-        ensures heard { IfOk result (λ h. h ≡ heard_or_dropped (why_not_shown self.old.state self.old.base reason thread shows) (Happening.Stopped reason thread)) }
-        ensures forgotten { OnOk result (self.new.learned ≡ None) }
-        ensures stays { OnOk result (self.new.base ≡ self.old.base) }
-        ensures shows { OnOk result (why_not_shown self.old.state self.old.base reason thread shows ≡ None → ShowsFirst shows more self.new.here) }
-        ensures shown { OnOk result (why_not_shown self.old.state self.old.base reason thread shows ≢ None → self.new.here ≡ self.old.here) }
-        ensures follows { IfOk result (λ h. FollowsLive self.old to_poll (happened h.happening) self.new) }
+        ensures heard { IfOk result (λ h. h ≡ heard_of (Some (Coming.Stopped reason thread shows more)) self.old) }
+        ensures view { OnOk result (self.new ≡ after_hearing (Some (Coming.Stopped reason thread shows more)) self.old) }
+        ensures memory { OnErr result (self.new ≡ self.old) }
         ensures in_range { IfOk result (λ h. IsTrue (is_short h.happening)) }
     {
         let happening = Happening::Stopped { reason, thread };
@@ -284,39 +279,15 @@ impl Live {
 
     /// Tells nothing, and has more sources, unless they are dropped.
     fn see_sources(&mut self, alloc: Global, more: Recorded) -> Result<Heard, AllocError>
-        ensures heard { IfOk result (λ h. h ≡ heard_or_dropped (why_no_room more self.old.base) Happening.Nothing) }
-        ensures forgotten { OnOk result (self.new.learned ≡ None) }
-        ensures stays { OnOk result (self.new.here ≡ self.old.here) }
-        ensures sources { OnOk result (why_no_room more self.old.base ≡ None → self.new.base ≡ with_sources_of more self.old.base) }
-        ensures same { OnOk result (why_no_room more self.old.base ≢ None → self.new.base ≡ self.old.base) }
-        ensures follows { OnOk result (FollowsLive self.old to_poll (happened Happening.Nothing) self.new) }
+        ensures heard { IfOk result (λ h. h ≡ heard_of (Some (Coming.Sources more)) self.old) }
+        ensures view { OnOk result (self.new ≡ after_hearing (Some (Coming.Sources more)) self.old) }
+        ensures memory { OnErr result (self.new ≡ self.old) }
     {
         if !has_room(&self.base, &more) {
             return Ok(self.drop_it(Dropped::TooManySources));
         }
         self.put_sources(alloc, more)?;
         Ok(self.see_nothing(None))
-    }
-
-    /// Puts lines in place of those of a source.
-    fn put_lines(
-        &mut self,
-        alloc: Global,
-        source: &SourceKey,
-        lines: &[u32],
-    ) -> Result<(), AllocError>
-        ensures { OnOk result (FollowsLive self.old (to_set_breakpoints source.now lines.now) done self.new) }
-    {
-        let act = HostAct::SetBreakpoints {
-            source: source.clone()?,
-            lines: List::new(lines.to_vec(alloc)?),
-        };
-        let HostAct::SetBreakpoints { source, lines } = &act else {
-            unreachable!()
-        };
-        self.set
-            .put(source.clone()?, lines.as_slice().to_vec(alloc)?)?;
-        self.ask(alloc, act)
     }
 
     /// Puts variables of a holder before what the moment has.
@@ -332,33 +303,22 @@ impl Live {
 
     /// Tells nothing, and shows the variables of a holder, unless they are dropped.
     fn see_variables(&mut self, holder: u64, variables: List<Variable>) -> Result<Heard, AllocError>
-        ensures heard { IfOk result (λ h. h ≡ heard_or_dropped (why_untold (now_shown self.old.state self.old.here) holder) Happening.Nothing) }
-        ensures forgotten { OnOk result (self.new.learned ≡ None) }
-        ensures stays { OnOk result (self.new.base ≡ self.old.base) }
-        ensures told { OnOk result (why_untold (now_shown self.old.state self.old.here) holder ≡ None → self.new.here ≡ with_told holder variables self.old.here) }
-        ensures same { OnOk result (why_untold (now_shown self.old.state self.old.here) holder ≢ None → self.new.here ≡ self.old.here) }
-        ensures follows { OnOk result (FollowsLive self.old to_poll (happened Happening.Nothing) self.new) }
+        ensures heard { IfOk result (λ h. h ≡ heard_of (Some (Coming.Variables holder variables)) self.old) }
+        ensures view { OnOk result (self.new ≡ after_hearing (Some (Coming.Variables holder variables)) self.old) }
+        ensures memory { OnErr result (self.new ≡ self.old) }
     {
         if let Some(why) = self.why_untold(holder) {
             return Ok(self.drop_it(why));
         }
         self.put_told(holder, variables.into_vec())?;
-        self.learned = None;
-        self.note(LiveLast::Polled(Happening::Nothing));
-        Ok(Heard {
-            happening: Happening::Nothing,
-            dropped: None,
-        })
+        Ok(self.see_nothing(None))
     }
 
     /// Hears what the host said, if it said something.
     fn hear(&mut self, alloc: Global, coming: Option<Coming>) -> Result<Heard, AllocError>
-        ensures told { IfOk result (λ h. h.happening ≡ told_by coming self.old) }
-        ensures dropped { IfOk result (λ h. h.dropped ≡ why_not_heard coming self.old) }
-        ensures learned { OnOk result (self.new.learned ≡ learned_by coming) }
-        ensures shows { OnOk result (ShowsBy coming (why_not_heard coming self.old) self.old.here self.new.here) }
-        ensures sources { OnOk result (self.new.base ≡ sources_by coming (why_not_heard coming self.old) self.old.base) }
-        ensures follows { IfOk result (λ h. FollowsLive self.old to_poll (happened h.happening) self.new) }
+        ensures heard { IfOk result (λ h. h ≡ heard_of coming self.old) }
+        ensures view { OnOk result (self.new ≡ after_hearing coming self.old) }
+        ensures memory { OnErr result (self.new ≡ self.old) }
         ensures in_range { IfOk result (λ h. IsTrue (is_short h.happening)) }
     {
         let Some(coming) = coming else {
@@ -389,34 +349,58 @@ impl Live {
     }
 
     /// Asks the host for an act that takes no more than that, and notes it.
-    fn ask(&mut self, alloc: Global, act: HostAct) -> Result<(), AllocError>
-        ensures asked { OnOk result (self.new ≡ noted (done_by act) self.old) }
+    fn ask(&mut self, act: HostAct) -> Result<(), AllocError>
+        ensures asked { OnOk result (self.new ≡ noted (done_by act) (with_mail (with_act act self.old.mail) self.old)) }
         ensures memory { OnErr result (self.new ≡ self.old) }
     {
         let asked = asked_of(&act);
-        self.mail.ask(alloc, act)?;
+        self.mail.ask(act)?;
         self.note(LiveLast::Done(asked));
         Ok(())
     }
 
-    /// The holder in which an act sets a value, and what it has then.
-    fn changed_by(&self, alloc: Global, act: &HostAct) -> Result<(u64, Vec<Variable>), AllocError>
-        requires { SetsShown act.now self.now }
-        ensures { IfOk result (λ changed. HasChanged act.now self.now changed.0 changed.1.items) }
+    /// Puts lines in place of those of a source.
+    fn put_lines(
+        &mut self,
+        alloc: Global,
+        source: &SourceKey,
+        lines: &[u32],
+    ) -> Result<(), AllocError>
+        ensures { OnOk result (FollowsLive self.old (to_set_breakpoints source.now lines.now) done self.new) }
     {
-        let HostAct::Assign {
+        let act = HostAct::SetBreakpoints {
+            source: source.clone()?,
+            lines: List::new(lines.to_vec(alloc)?),
+        };
+        self.set.put(source.clone()?, lines.to_vec(alloc)?)?;
+        self.ask(act)
+    }
+
+    /// The act that sets a variable to the value that the host told of a text, and what its holder has then.
+    fn act_and_variables(
+        &self,
+        alloc: Global,
+        holder: u64,
+        name: &str,
+        text: &str,
+    ) -> Result<(HostAct, Vec<Variable>), AllocError>
+        requires { IsSome ((shown_live self.now).assigned holder name.now text.now) }
+        ensures act { IfOk result (λ set. set.0 ≡ HostAct.Assign holder name.now (value_for text.now self.now)) }
+        ensures changed { IfOk result (λ set. set.1.items ≡ variables_set holder name.now text.now self.now) }
+    {
+        let Some(value) = self.value_of(text) else {
+            unreachable!()
+        };
+        let Some(variables) = self.children_at(holder) else {
+            unreachable!()
+        };
+        let act = HostAct::Assign {
             holder,
-            name,
-            value,
-        } = act
-        else {
-            unreachable!()
+            name: Text::copied(alloc, name)?,
+            value: value.clone()?,
         };
-        let Some(variables) = self.children_at(*holder) else {
-            unreachable!()
-        };
-        let changed = variables::with_value(alloc, variables, name.as_str(), value.as_str())?;
-        Ok((*holder, changed))
+        let changed = variables::with_value(alloc, variables, name, value.as_str())?;
+        Ok((act, changed))
     }
 
     /// Sets a variable to the value that the host told of a text.
@@ -431,23 +415,15 @@ impl Live {
         ensures follows { OnOk result (FollowsLive self.old (to_assign holder name.now text.now) done self.new) }
         ensures memory { OnErr result (self.new ≡ self.old) }
     {
-        let Some(value) = self.value_of(text) else {
-            unreachable!()
-        };
-        let act = HostAct::Assign {
-            holder,
-            name: Text::copied(alloc, name)?,
-            value: value.clone()?,
-        };
-        let (holder, changed) = self.changed_by(alloc, &act)?;
-        self.mail.ask(alloc, act)?;
+        let (act, changed) = self.act_and_variables(alloc, holder, name, text)?;
+        self.mail.ask(act)?;
         match self.put_told(holder, changed) {
             Ok(()) => {
                 self.note(LiveLast::Done(Asked::Assign));
                 Ok(())
             }
             Err(refused) => {
-                self.mail.take_back(alloc);
+                self.mail.take_back();
                 Err(refused)
             }
         }
@@ -455,17 +431,21 @@ impl Live {
 }
 
 impl Debuggee for Live {
-    ghost use Rattle.dap_live.specs.LiveShown.{shown_live};
+    ghost use Rattle.std.specs.Prelude.{◌≡◌, IfOk, OnErr, IsTrue};
+    ghost use Rattle.dap_debuggee.specs.Laws.{is_short};
+    ghost use Rattle.dap_debuggee.specs.Shown.{to_poll, happened};
+    ghost use Rattle.dap_live.specs.LiveShown.{shown_live, with_mail};
+    ghost use Rattle.dap_live.specs.MailState.{without_coming};
     ghost use Rattle.dap_live.specs.LiveLaws.{FollowsLive, counts-live, remembers-live, answers-live, moves-live, sets_lines-live, sets_values-live, keeps_answers-live, keeps_frames-live, keeps_sources-live, no_threads-live, verifies_each-live, assigns_variables-live};
 
     ghost shown = { shown_live };
 
     ghost follows = { FollowsLive };
 
-    fn start(&mut self, alloc: Global) -> Result<(), DebuggeeFault> {
+    fn start(&mut self, _alloc: Global) -> Result<(), DebuggeeFault> {
         match self.state {
             State::NotStarted => {
-                self.ask(alloc, HostAct::Start)?;
+                self.ask(HostAct::Start)?;
                 self.state = State::Running;
                 Ok(())
             }
@@ -476,10 +456,10 @@ impl Debuggee for Live {
         }
     }
 
-    fn resume(&mut self, alloc: Global, how: How, thread: i64) -> Result<(), DebuggeeFault> {
+    fn resume(&mut self, _alloc: Global, how: How, thread: i64) -> Result<(), DebuggeeFault> {
         match self.state {
             State::Stopped => {
-                self.ask(alloc, HostAct::Resume { how, thread })?;
+                self.ask(HostAct::Resume { how, thread })?;
                 self.state = State::Running;
                 Ok(())
             }
@@ -490,10 +470,10 @@ impl Debuggee for Live {
         }
     }
 
-    fn pause(&mut self, alloc: Global) -> Result<(), DebuggeeFault> {
+    fn pause(&mut self, _alloc: Global) -> Result<(), DebuggeeFault> {
         match self.state {
             State::Running => {
-                self.ask(alloc, HostAct::Pause)?;
+                self.ask(HostAct::Pause)?;
                 Ok(())
             }
             State::NotStarted | State::Stopped | State::Gone => {
@@ -503,12 +483,18 @@ impl Debuggee for Live {
         }
     }
 
-    fn poll(&mut self, alloc: Global) -> Result<Happening, AllocError> {
+    /// What the host said last, just that, or nothing where that is dropped; the mail says why then.
+    ///
+    /// # Errors
+    /// `AllocError` where memory is refused. What the host said is lost then, and all else is as it was.
+    fn poll(&mut self, alloc: Global) -> Result<Happening, AllocError>
+        ensures follows { IfOk result (λ h. FollowsLive self.old to_poll (happened h) self.new) }
+        ensures in_range { IfOk result (λ h. IsTrue (is_short h)) }
+        ensures memory { OnErr result (self.new ≡ with_mail (without_coming self.old.mail) self.old) }
+    {
         let coming = self.mail.take_coming();
         let heard = self.hear(alloc, coming)?;
-        if let Some(why) = heard.dropped {
-            self.mail.drop_coming(why);
-        }
+        self.mail.set_dropped(heard.dropped);
         Ok(heard.happening)
     }
 
@@ -661,4 +647,23 @@ impl Debuggee for Live {
     ghost verifies_each = { verifies_each-live };
 
     ghost assigns_variables = { assigns_variables-live };
+}
+
+impl HasMail for Live {
+    type Mail = Mail;
+
+    ghost use Rattle.std.specs.Prelude.{refl};
+    ghost use Rattle.dap_live.specs.LiveShown.{with_mail as with_mail_in};
+
+    ghost mail = { λ v. v.mail };
+
+    ghost with_mail = { with_mail_in };
+
+    fn exchange(&mut self, given: Mail) -> Mail {
+        std::mem::replace(&mut self.mail, given)
+    }
+
+    ghost shows_the_same = { λ _ _. refl };
+
+    ghost has_what_was_put = { λ _ _. refl };
 }

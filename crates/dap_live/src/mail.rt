@@ -1,13 +1,19 @@
-//! What a host and its debuggee hand to each other.
+//! What a host and its debuggee leave for each other.
 //!
-//! Contracts see nothing of it: no clause says what a cell holds.
+//! The host leaves what it says, and the debuggee what the host has to do, and why what it said last is dropped. Whoever has
+//! the adapter takes the mail out between its calls, and puts it back (`dap_debuggee::HasMail`). This file must not know the
+//! debuggee: what becomes of what is said is in `live.rt`.
+ghost use Rattle.std.specs.Prelude.{◌≡◌, Some, None, false, OnOk, OnErr};
+ghost use Rattle.std.specs.List.{last_or};
+ghost use Rattle.dap_live.specs.MailState.{is_end as is_the_end};
+ghost use Rattle.dap_live.specs.PrivateHeld.{acts_held};
 
 use dap_command::SourceKey;
 use dap_debuggee::{Category, How, Variable};
 use dap_json::{List, Text};
 use dap_replay::Recorded;
 use std::alloc::{AllocError, Global};
-use std::cell::Cell;
+use std::marker::Model;
 
 /// What the host says of the debuggee.
 #[derive(Drop)]
@@ -92,80 +98,142 @@ pub enum Dropped {
     TooManyHolders,
 }
 
-/// What is under way between a host and its debuggee.
+/// What a host and its debuggee leave for each other. A contract sees what came, the acts in order, and why what came is dropped.
 #[derive(Drop)]
 pub struct Mail {
-    coming: Cell<Option<Coming>>,
-    acts: Cell<Vec<HostAct>>,
-    /// The last act is the end. It takes no memory to say so.
-    is_to_end: Cell<bool>,
-    dropped: Cell<Option<Dropped>>,
+    coming: Option<Coming>,
+    acts: Vec<HostAct>,
+    /// Behind them comes the end. It takes no memory to say so.
+    is_to_end: bool,
+    dropped: Option<Dropped>,
+}
+
+impl Model for Mail {
+    ghost use Rattle.dap_live.specs.MailState.{MailState};
+    ghost use Rattle.dap_live.specs.PrivateHeld.{acts_held};
+
+    ghost Value = { MailState };
+
+    ghost view = { λ m. record { coming = m.coming; acts = acts_held m.acts.items m.is_to_end; dropped = m.dropped } };
+}
+
+fn is_end(act: &HostAct) -> bool
+    ensures { result ≡ is_the_end (Some act.now) }
+{
+    matches!(act, HostAct::End)
+}
+
+/// Whether the last of them is the end.
+#[tactic(auto, using(crate::proofs::Mails::last_at))]
+fn is_at_end(acts: &[HostAct]) -> bool
+    ensures { result ≡ is_the_end (last_or None acts.now) }
+{
+    match acts.last() {
+        Some(act) => is_end(act),
+        None => false,
+    }
+}
+
+/// Puts the end behind the acts, where it is asked for.
+fn put_end(acts: &mut Vec<HostAct>, is_to_end: &mut bool) -> Result<(), AllocError>
+    ensures put { OnOk result (acts.new.items ≡ acts_held acts.old.items is_to_end.old) }
+    ensures done { OnOk result (is_to_end.new ≡ false) }
+    ensures memory { OnErr result (acts_held acts.new.items is_to_end.new ≡ acts_held acts.old.items is_to_end.old) }
+{
+    if *is_to_end {
+        acts.push(HostAct::End)?;
+        *is_to_end = false;
+    }
+    Ok(())
 }
 
 impl Mail {
-    /// Nothing is under way.
-    pub fn new(alloc: Global) -> Mail {
+    ghost use Rattle.std.specs.Prelude.{◌≡◌, None, IfOk, OnOk, OnErr};
+    ghost use Rattle.dap_live.specs.MailState.{MailState, no_mail, with_coming, without_coming, with_dropped, without_acts, with_act, with_end};
+
+    /// There is nothing.
+    pub fn new(alloc: Global) -> Mail
+        ensures { result ≡ no_mail }
+    {
         Mail {
-            coming: Cell::new(None),
-            acts: Cell::new(Vec::new(alloc)),
-            is_to_end: Cell::new(false),
-            dropped: Cell::new(None),
+            coming: None,
+            acts: Vec::new(alloc),
+            is_to_end: false,
+            dropped: None,
         }
     }
 
     /// Leaves what the host says, in place of what it said before, until the debuggee is asked what happened.
-    pub fn post(&self, coming: Coming) {
-        self.dropped.set(None);
-        self.coming.set(Some(coming));
+    pub fn post(&mut self, coming: Coming)
+        ensures { self.new ≡ with_coming coming self.old }
+    {
+        self.coming = Some(coming);
+        self.dropped = None;
     }
 
-    /// Takes what was left, if the debuggee has not been asked since.
-    pub fn take_coming(&self) -> Option<Coming> {
-        self.coming.replace(None)
+    /// Takes what the host left, where the debuggee has not been asked since.
+    pub fn take_coming(&mut self) -> Option<Coming>
+        ensures given { result ≡ self.old.coming }
+        ensures taken { self.new ≡ without_coming self.old }
+    {
+        std::mem::replace(&mut self.coming, None)
     }
 
-    /// Why what was left last was dropped; `None` where it was not. It is told once.
-    pub fn take_dropped(&self) -> Option<Dropped> {
-        self.dropped.replace(None)
+    /// Why what the debuggee heard last is dropped; `None` where it is not. It is told once.
+    pub fn take_dropped(&mut self) -> Option<Dropped>
+        ensures given { result ≡ self.old.dropped }
+        ensures taken { self.new ≡ with_dropped None self.old }
+    {
+        std::mem::replace(&mut self.dropped, None)
     }
 
-    /// What the host has to do since the last call, in order.
+    /// What the host has to do since the last call, in the order in which it was asked.
     ///
     /// # Errors
-    /// `AllocError` where memory is refused for the last of them, the end. Then they are lost.
-    pub fn take_acts(&self, alloc: Global) -> Result<Vec<HostAct>, AllocError> {
-        let mut acts = self.acts.replace(Vec::new(alloc));
-        if self.is_to_end.replace(false) {
-            acts.push(HostAct::End)?;
-        }
-        Ok(acts)
+    /// `AllocError` where memory is refused for the last of them, the end. Then all stay.
+    pub fn take_acts(&mut self, alloc: Global) -> Result<Vec<HostAct>, AllocError>
+        ensures given { IfOk result (λ acts. acts.items ≡ self.old.acts) }
+        ensures taken { OnOk result (self.new ≡ without_acts self.old) }
+        ensures memory { OnErr result (self.new ≡ self.old) }
+    {
+        put_end(&mut self.acts, &mut self.is_to_end)?;
+        Ok(std::mem::replace(&mut self.acts, Vec::new(alloc)))
     }
 
-    /// Says why what came is dropped.
-    pub(crate) fn drop_coming(&self, why: Dropped) {
-        self.dropped.set(Some(why));
+    /// Says why what came is dropped, or that it is not.
+    pub(crate) fn set_dropped(&mut self, why: Option<Dropped>)
+        ensures { self.new ≡ with_dropped why self.old }
+    {
+        self.dropped = why;
     }
 
-    /// One more act.
-    pub(crate) fn ask(&self, alloc: Global, act: HostAct) -> Result<(), AllocError> {
-        let mut acts = self.acts.replace(Vec::new(alloc));
-        let pushed = acts.push(act);
-        self.acts.set(acts);
-        match pushed {
-            Ok(()) => Ok(()),
-            Err(_) => Err(AllocError),
-        }
+    /// One more act, behind all others.
+    pub(crate) fn ask(&mut self, act: HostAct) -> Result<(), AllocError>
+        ensures asked { OnOk result (self.new ≡ with_act act self.old) }
+        ensures memory { OnErr result (self.new ≡ self.old) }
+    {
+        put_end(&mut self.acts, &mut self.is_to_end)?;
+        self.acts.push(act)?;
+        Ok(())
     }
 
     /// The last act is not to be done after all.
-    pub(crate) fn take_back(&self, alloc: Global) {
-        let mut acts = self.acts.replace(Vec::new(alloc));
-        let _ = acts.pop();
-        self.acts.set(acts);
+    pub(crate) fn take_back(&mut self)
+        ensures { (m : MailState) (act : _) → self.old ≡ with_act act m → self.new ≡ m }
+    {
+        if self.is_to_end {
+            self.is_to_end = false;
+        } else {
+            let _ = self.acts.pop();
+        }
     }
 
     /// The end, behind all other acts.
-    pub(crate) fn ask_end(&self) {
-        self.is_to_end.set(true);
+    pub(crate) fn ask_end(&mut self)
+        ensures { self.new ≡ with_end self.old }
+    {
+        if !is_at_end(&self.acts) {
+            self.is_to_end = true;
+        }
     }
 }

@@ -14,12 +14,11 @@
 
 use crate::playing::{add_answer, add_poll};
 use crate::telling::{Query, add_told};
-use dap_debuggee::Variable;
+use dap_debuggee::{HasMail, Variable};
 use dap_json::{List, Text};
 use dap_live::{Coming, Dropped, HostAct, Live, Mail};
 use dap_replay::Recorded;
 use std::alloc::Global;
-use std::rc::Rc;
 use std::test::Fail;
 
 /// A moment of one frame with two scopes, the first of which comes without its variables.
@@ -123,8 +122,16 @@ fn act_name(act: &HostAct) -> &'static str {
     }
 }
 
-fn add_acts(alloc: Global, mail: &Mail, answers: &mut String) -> bool {
-    let Ok(acts) = mail.take_acts(alloc) else {
+/// The mail of the debuggee, which has none then.
+fn mail_of(alloc: Global, live: &mut Live) -> Mail {
+    live.exchange(Mail::new(alloc))
+}
+
+fn add_acts(alloc: Global, live: &mut Live, answers: &mut String) -> bool {
+    let mut mail = mail_of(alloc, live);
+    let taken = mail.take_acts(alloc);
+    drop(live.exchange(mail));
+    let Ok(acts) = taken else {
         return false;
     };
     for act in &acts {
@@ -135,31 +142,34 @@ fn add_acts(alloc: Global, mail: &Mail, answers: &mut String) -> bool {
     true
 }
 
-fn add_heard(
-    alloc: Global,
-    live: &mut Live,
-    mail: &Mail,
-    word: &str,
-    answers: &mut String,
-) -> bool {
+fn add_reason(alloc: Global, live: &mut Live, answers: &mut String) -> bool {
+    let mut mail = mail_of(alloc, live);
+    let why = mail.take_dropped();
+    drop(live.exchange(mail));
+    answers.push_str(reason(why)).is_ok()
+}
+
+fn add_heard(alloc: Global, live: &mut Live, word: &str, answers: &mut String) -> bool {
     match coming(alloc, word) {
         None => false,
         Some(coming) => {
+            let mut mail = mail_of(alloc, live);
             mail.post(coming);
+            drop(live.exchange(mail));
             add_poll(alloc, live, answers)
         }
     }
 }
 
-fn add_word(alloc: Global, live: &mut Live, mail: &Mail, word: &str, answers: &mut String) -> bool {
+fn add_word(alloc: Global, live: &mut Live, word: &str, answers: &mut String) -> bool {
     match word {
-        "!dropped" => answers.push_str(reason(mail.take_dropped())).is_ok(),
-        "!acts" => add_acts(alloc, mail, answers),
+        "!dropped" => add_reason(alloc, live, answers),
+        "!acts" => add_acts(alloc, live, answers),
         "!all-sources" => add_told(alloc, live, Query::Sources, answers),
         "!second-text" => add_told(alloc, live, Query::Content(1), answers),
         _ => {
             if word.starts_with("!") {
-                add_heard(alloc, live, mail, word, answers)
+                add_heard(alloc, live, word, answers)
             } else {
                 add_answer(alloc, live, word, answers)
             }
@@ -167,24 +177,18 @@ fn add_word(alloc: Global, live: &mut Live, mail: &Mail, word: &str, answers: &m
     }
 }
 
-fn add_words(
-    alloc: Global,
-    live: &mut Live,
-    mail: &Mail,
-    words: &str,
-    answers: &mut String,
-) -> bool {
+fn add_words(alloc: Global, live: &mut Live, words: &str, answers: &mut String) -> bool {
     for word in words.split(' ') {
-        if !add_word(alloc, live, mail, word, answers) || answers.push_str("; ").is_err() {
+        if !add_word(alloc, live, word, answers) || answers.push_str("; ").is_err() {
             return false;
         }
     }
     true
 }
 
-fn is_answered(alloc: Global, live: &mut Live, mail: &Mail, words: &str, wanted: &str) -> bool {
+fn is_answered(alloc: Global, live: &mut Live, words: &str, wanted: &str) -> bool {
     let mut answers = String::new(alloc);
-    add_words(alloc, live, mail, words, &mut answers) && answers.as_str() == wanted
+    add_words(alloc, live, words, &mut answers) && answers.as_str() == wanted
 }
 
 /// Whether a fresh debuggee answers so.
@@ -192,14 +196,8 @@ fn is_fed(alloc: Global, words: &str, wanted: &str) -> bool {
     let Some(base) = two_scopes(alloc) else {
         return false;
     };
-    let Ok(mail) = Rc::new(alloc, Mail::new(alloc)) else {
-        return false;
-    };
-    let Ok(shared) = mail.clone() else {
-        return false;
-    };
-    let mut live = Live::open(alloc, base, shared);
-    let is_so = is_answered(alloc, &mut live, &mail, words, wanted);
+    let mut live = Live::open(alloc, base);
+    let is_so = is_answered(alloc, &mut live, words, wanted);
     drop(live);
     is_so
 }
