@@ -2,6 +2,7 @@
 use Rattle.std.proofs.Common.{◌≡◌, ℕ, List, [], ◌∷◌, ◌++◌, Bool, true, false, Option, Some, None, refl, sym, ap, ◌∙◌, subst, append-nil}
 use Rattle.std.specs.Prelude.{if◌then◌else◌}
 use Rattle.dap_adapter.specs.AdapterState.{AdapterState, state_of}
+use Rattle.dap_adapter.specs.Calls.{Exchanges}
 use Rattle.dap_adapter.specs.Parts.{PollsOn}
 use Rattle.dap_adapter.specs.Polled.{Polled, not_polled, polled_more, PollsFirst, TellPollsFirst}
 use Rattle.dap_debuggee.specs.Shown.{to_poll, Reply}
@@ -20,6 +21,13 @@ use Rattle.dap_plan.specs.Polling.{after_happening, after_poll_reply, has_debugg
 use Rattle.dap_plan.specs.Session.{Session}
 use Rattle.dap_plan.specs.SessionState.{SessionState}
 use Rattle.dap_host.specs.Fed.{TellsFed, over_mail}
+
+-- ---- mail
+
+-- what is put is there, and nothing else changed
+pub over : (old new : AdapterState LiveState) (given mail : MailState) → Exchanges shown_live old new → new.debuggee ≡ with_mail given old.debuggee → given ≡ mail → new ≡ over_mail mail old
+over old new given mail e put is =
+    e.all_else ∙ ap (λ (v : LiveState). let a : AdapterState LiveState = record old { debuggee = v } in a) (put ∙ ap (λ (m : MailState). with_mail m old.debuggee) is)
 
 -- ---- a poll
 
