@@ -1,3 +1,4 @@
+mod FedLemmas
 mod FoundLemmas
 mod GoingLemmas
 mod LineLemmas

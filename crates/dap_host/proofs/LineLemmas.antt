@@ -19,7 +19,7 @@ counted_is o h k e is n = is ∙ (ap (λ (z : ℕ). record o { number = z }) n �
 pub counted_going : (o h k : HostState) → o ≡ h → k ≡ record o { number = k.number } → IsGoing h → IsGoing k
 counted_going o h k e is going =
     let there : IsGoing o = subst IsGoing (sym e) going in
-    subst IsGoing (sym is) (record { used = there.used; history = there.history; stands = there.stands; none_held = there.none_held; limits_are = there.limits_are })
+    subst IsGoing (sym is) (record { used = there.used; history = there.history; stands = there.stands; none_held = there.none_held; limits_are = there.limits_are; fetched = there.fetched })
 
 pub hears_none : (h k : HostState) (line before : List ℕ) → length line ≡ 0 → k ≡ counted h → HearsText h line before before k
 hears_none h k [] before none is = (refl, is)

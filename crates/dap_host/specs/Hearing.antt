@@ -3,7 +3,7 @@
 use Rattle.std.specs.Prelude.{◌≡◌, ◌≢◌, ℕ, ◌+◌, ◌<◌, ◌≤◌, nat_lt, Bool, true, false, List, [], ◌∷◌, ◌++◌, length, take, drop, codes, bytes_eq, Option, Some, None, Ok, Err, if◌then◌else◌}
 use Rattle.serde_json.specs.Data.{Data}
 use Rattle.dap_adapter.specs.AdapterState.{AdapterState}
-use Rattle.dap_adapter.specs.Parts.{AnswersPiece, PollsOn, StopsAfter}
+use Rattle.dap_adapter.specs.Parts.{StopsAfter}
 use Rattle.dap_adapter.specs.Run.{to_take, to_poll, has_ended}
 use Rattle.dap_adapter.specs.StandsFor.{StandsFor}
 use Rattle.dap_channel.specs.Sent.{saturating_count}
@@ -18,10 +18,11 @@ use Rattle.dap_live.specs.Dropping.{why_dropped}
 use Rattle.dap_live.specs.LiveLaws.{FollowsLive}
 use Rattle.dap_live.specs.LiveShown.{LiveState, shown_live, fresh_live}
 use Rattle.dap_live.specs.declared.mail.Coming.{Coming}
-use Rattle.dap_live.specs.declared.mail.Coming.TheVariants as kind
 use Rattle.dap_live.specs.declared.mail.Dropped.{Dropped as Drop}
 use Rattle.dap_live.specs.declared.mail.Dropped.TheVariants.{OutOfTurn, TooManySources}
 use Rattle.dap_live.specs.declared.mail.HostAct.{HostAct}
+use Rattle.dap_live.specs.MailState.{no_mail, with_coming}
+use Rattle.dap_host.specs.Fed.{AnswersFed, TellsFed, over_mail}
 use Rattle.dap_envelope.specs.Refusals.{Bad}
 use Rattle.dap_envelope.specs.declared.message.Message.{Message}
 use Rattle.dap_recording.specs.declared.recording.RecordedSource.{RecordedSource}
@@ -51,13 +52,14 @@ pub record HostState : Type 0 where
   pub longest : ℕ
   pub number : ℕ
 
--- its adapter is open, between two messages, and what it wrote can be read
+-- its adapter is open, between two messages, what it wrote can be read, and the debuggee has no mail
 pub record IsGoing (h : HostState) : Type 0 where
   pub used : List ℕ
   pub history : List Entry
   pub stands : StandsFor h.adapter used history
   pub none_held : stands.received.rest ≡ []
   pub limits_are : h.adapter.session.limits ≡ h.limits
+  pub fetched : h.adapter.debuggee.mail ≡ no_mail
 
 -- a host of this file to which no line came
 pub record IsFresh (limits : Settings) (longest : ℕ) (bytes : List ℕ) (h : HostState) : Type 0 where
@@ -142,34 +144,27 @@ pub record Refuses (old : HostState) (why : Refusal) (before after : List ℕ) (
   pub line : after ≡ before ++ refusal_line old.number why
   pub same : new ≡ old
 
--- nothing is said of what is heard; else the line of this number is refused
-abbrev pub SaysDropped : Bool → ℕ → List ℕ → List ℕ → Type 0
-SaysDropped true number before after = after ≡ before
-SaysDropped false number before after = (why : Drop) × (after ≡ before ++ refusal_line number (Dropped why))
+-- the line for what is dropped; nothing is said of what is heard
+abbrev pub dropped_line : ℕ → Option Drop → List ℕ
+dropped_line number None = []
+dropped_line number (Some why) = refusal_line number (Dropped why)
 
 -- ---- what is done
 
--- the lines of what an adapter wrote, and then those of acts that the debugger has to do
-pub record HandsOut (outs : List Message) (before after : List ℕ) : Type 0 where
-  pub acts : List HostAct
-  pub lines : after ≡ before ++ (message_lines outs ++ act_lines acts)
-
--- the adapter takes a message, and answers it: these lines are all that it writes for it, and nothing else
+-- The adapter takes a message, and answers it: the lines of all that it writes for it, and then those of the acts that the debugger has to do.
 pub record AnswersMessage (old : HostState) (body before after : List ℕ) (new : HostState) : Type 0 where
   pub bytes : List ℕ
-  pub ended : Bool
-  pub answers : AnswersPiece shown_live FollowsLive old.adapter (frame_of body) [] new.adapter bytes ended
-  pub taken : answers.runs_on.bodies ≡ body ∷ []
-  pub out : HandsOut answers.outs before after
+  pub acts : List HostAct
+  pub fed : AnswersFed old.adapter body bytes acts new.adapter
+  pub taken : fed.answers.runs_on.bodies ≡ body ∷ []
+  pub lines : after ≡ before ++ (message_lines fed.answers.outs ++ act_lines acts)
   pub same : SameButAdapter old new
 
--- the adapter asks the debuggee what happened, and tells it: these lines are all that it writes then, and whether there are messages among them
-pub record TellsIt (old : HostState) (is_told : Bool) (before after : List ℕ) (new : HostState) : Type 0 where
+-- the adapter tells what comes: the lines of all that it writes then
+pub record TellsIt (old : HostState) (c : Coming) (dropped : Option Drop) (before after : List ℕ) (new : HostState) : Type 0 where
   pub bytes : List ℕ
-  pub polls : PollsOn shown_live FollowsLive old.adapter [] new.adapter bytes
-  pub some : is_told ≡ true → bytes ≢ []
-  pub none : is_told ≡ false → bytes ≡ []
-  pub out : HandsOut polls.outs before after
+  pub fed : TellsFed old.adapter c bytes dropped new.adapter
+  pub lines : after ≡ before ++ message_lines fed.polls.outs
   pub same : SameButAdapter old new
 
 -- what a number of the client names is answered, and nothing else has changed
@@ -177,35 +172,22 @@ pub record AnswersTarget (old : HostState) (number : ℕ) (before after : List �
   pub line : after ≡ before ++ target_line number (target_of old.adapter.session.references number)
   pub same : new ≡ old
 
--- the client is told what happened; of variables, of sources and of what a text comes to it is told nothing
-abbrev pub is_for_client : Coming → Bool
-is_for_client (kind.Output category text) = true
-is_for_client (kind.Stopped reason thread shows later) = true
-is_for_client (kind.Continued thread) = true
-is_for_client (kind.Exited code) = true
-is_for_client (kind.Learned text value holder) = false
-is_for_client (kind.Variables holder variables) = false
-is_for_client (kind.Sources more) = false
-
--- where the debuggee drops after all what was told, the line is refused behind them: not where the client was told it, but where the client is to be told it and was not
-pub record TellsOrDrops (old : HostState) (c : Coming) (is_heard : Bool) (before after : List ℕ) (new : HostState) : Type 0 where
+-- where the debuggee drops after all what was told, the line is refused behind them, for just that reason
+pub record TellsOrDrops (old : HostState) (c : Coming) (dropped : Option Drop) (before after : List ℕ) (new : HostState) : Type 0 where
   pub lines : List ℕ
-  pub is_told : Bool
-  pub tells : TellsIt old is_told before lines new
-  pub says : SaysDropped is_heard old.number lines after
-  pub told : is_told ≡ true → is_heard ≡ true
-  pub untold : is_for_client c ≡ true → is_told ≡ false → is_heard ≡ false
+  pub tells : TellsIt old c dropped before lines new
+  pub says : after ≡ lines ++ dropped_line old.number dropped
 
 -- sources that come are then behind those that there were; where they are dropped, all is as it was
-abbrev pub kept : Bool → Coming → HostState → HostState
-kept true c h = record h { sources = sources_after c h.sources }
-kept false c h = h
+abbrev pub kept : Option Drop → Coming → HostState → HostState
+kept None c h = record h { sources = sources_after c h.sources }
+kept (Some why) c h = h
 
 pub record TellsAndKeeps (old : HostState) (c : Coming) (before after : List ℕ) (new : HostState) : Type 0 where
-  pub is_heard : Bool
+  pub dropped : Option Drop
   pub told : HostState
-  pub tells : TellsOrDrops old c is_heard before after told
-  pub keeps : new ≡ kept is_heard c told
+  pub tells : TellsOrDrops old c dropped before after told
+  pub keeps : new ≡ kept dropped c told
 
 pub data HearsMessage (old : HostState) (body before after : List ℕ) (new : HostState) : Type 0 where
   refused : (why : Refusal) → RefusesMessage old body why → Refuses old why before after new → HearsMessage old body before after new
@@ -250,14 +232,14 @@ pub record StopsMessage (old : HostState) (body before after : List ℕ) (new : 
   pub stops : StopsAfter shown_live FollowsLive old.adapter to_take (frame_of body) [] fault new.adapter bytes
   pub lines : after ≡ before ++ message_lines stops.outs
 
-pub record StopsTelling (old : HostState) (before after : List ℕ) (new : HostState) (fault : AdapterFault) : Type 0 where
+pub record StopsTelling (old : HostState) (c : Coming) (before after : List ℕ) (new : HostState) (fault : AdapterFault) : Type 0 where
   pub bytes : List ℕ
-  pub stops : StopsAfter shown_live FollowsLive old.adapter (to_poll 0) [] [] fault new.adapter bytes
+  pub stops : StopsAfter shown_live FollowsLive (over_mail (with_coming c no_mail) old.adapter) (to_poll 0) [] [] fault new.adapter bytes
   pub lines : after ≡ before ++ message_lines stops.outs
 
 abbrev pub StopsMarked : Mark → HostState → List ℕ → List ℕ → List ℕ → HostState → AdapterFault → Type 0
 StopsMarked mark.Message old text before after new fault = TakesMessage old text × StopsMessage old text before after new fault
-StopsMarked mark.Happening old text before after new fault = ((coming : Coming) × HearsTold old text coming) × StopsTelling old before after new fault
+StopsMarked mark.Happening old text before after new fault = (coming : Coming) × HearsTold old text coming × StopsTelling old coming before after new fault
 StopsMarked mark.None old text before after new fault = ⊥
 
 abbrev pub StopsIf : Bool → HostState → List ℕ → List ℕ → List ℕ → HostState → AdapterFault → Type 0

@@ -1,3 +1,4 @@
+pub mod Fed
 pub mod Hearing
 pub mod PrivateKeeping
 pub mod Fetching

@@ -1,6 +1,7 @@
 -- How the code holds sources that come until they are heard. Only private clauses and proofs cite this file.
-use Rattle.std.specs.Prelude.{◌≡◌, Bool, true, false, List, Option, Some, None}
+use Rattle.std.specs.Prelude.{◌≡◌, List, Option, Some, None}
 use Rattle.dap_live.specs.declared.mail.Coming.{Coming}
+use Rattle.dap_live.specs.declared.mail.Dropped.{Dropped}
 use Rattle.dap_recording.specs.declared.recording.RecordedSource.{RecordedSource}
 use Rattle.dap_replay.specs.Played.{Played}
 use Rattle.dap_host.specs.Hearing.{HostState}
@@ -11,7 +12,7 @@ abbrev pub AreAll : Coming → List RecordedSource → Option Played → Type 0
 AreAll c sources None = sources_after c sources ≡ sources
 AreAll c sources (Some all) = all.recording.sources ≡ sources_after c sources
 
-abbrev pub keeps_all : Bool → Option Played → HostState → HostState
-keeps_all true (Some all) h = record h { sources = all.recording.sources }
-keeps_all true None h = h
-keeps_all false all h = h
+abbrev pub keeps_all : Option Dropped → Option Played → HostState → HostState
+keeps_all None (Some all) h = record h { sources = all.recording.sources }
+keeps_all None None h = h
+keeps_all (Some why) all h = h

@@ -1,13 +1,14 @@
 //! A host's lines, one after the other.
 ghost use Rattle.std.specs.Prelude.{◌≡◌, ◌≢◌, ◌++◌, List, IfOk, drop};
 ghost use Rattle.dap_envelope.specs.declared.message.Message.{Message};
-ghost use Rattle.dap_line.specs.Written.{message_lines};
+ghost use Rattle.dap_line.specs.Written.{act_lines, message_lines};
 ghost use Rattle.dap_outbox.specs.Draft.{bytes_of};
 ghost use Rattle.dap_plan.specs.declared.fault.AdapterFault.{AdapterFault};
 ghost use Rattle.dap_decision.specs.Table.{is_phase};
 ghost use Rattle.dap_decision.specs.declared.phase.Phase.{Phase};
-ghost use Rattle.dap_host.specs.Hearing.{mark_of, state_of, drop_of, is_for_client};
+ghost use Rattle.dap_host.specs.Hearing.{mark_of, state_of, drop_of};
 
+use crate::fed::{answer_fed, tell_fed};
 use crate::limits::limits_are_in_range;
 use crate::messages::push_messages;
 use dap_adapter::{Adapter, AdapterFault, Phase, bodies_come_one_by_one};
@@ -18,12 +19,11 @@ use dap_line::{
     HostSources, Refusal, Said, Told, Unread, body_refusal, coming_of, happening_in, push_acts,
     push_refusal, push_target, read_said, sources_in,
 };
-use dap_live::{Coming, Dropped, Live, Mail, why_dropped};
+use dap_live::{Coming, Dropped, HostAct, Live, why_dropped};
 use dap_recording::RecordingFault;
 use dap_replay::Recorded;
 use std::alloc::{AllocError, Global};
 use std::marker::Model;
-use std::rc::Rc;
 
 /// Room for a message of the greatest body, and the mark before it: 16777218 bytes.
 pub const LONGEST_LINE: usize = 16777218;
@@ -85,24 +85,10 @@ fn dropped_in(phase: Phase, told: &Told) -> Result<Option<Dropped>, AllocError>
     }
 }
 
-/// Whether the client is told of it.
-fn is_for_client(coming: &Coming) -> bool
-    ensures { result ≡ is_for_client coming.now }
-{
-    match coming {
-        Coming::Output { .. }
-        | Coming::Stopped { .. }
-        | Coming::Continued { .. }
-        | Coming::Exited { .. } => true,
-        Coming::Learned { .. } | Coming::Variables { .. } | Coming::Sources(_) => false,
-    }
-}
-
 /// An adapter over a debuggee that a host feeds by lines.
 #[derive(Drop)]
 pub struct Host {
     adapter: Adapter<Live>,
-    mail: Rc<Mail>,
     sources: HostSources,
     limits: Limits,
     /// The most bytes that a line may have.
@@ -127,7 +113,7 @@ impl Model for Host {
 
 impl Host {
     ghost use Rattle.std.specs.Prelude.{◌≡◌, ◌≢◌, ◌↔◌, ◌<◌, ◌++◌, List, ℕ, length, IfOk, IfErr, OnOk, OnErr, IfSome, IsTrue, None, Ok, Err, true, false};
-    ghost use Rattle.dap_host.specs.Hearing.{IsFresh, IsGoing, HandsOut, RefusesMessage, TakesMessage, Comes, HearsTold, IsUnheard, AnswersMessage, SaysDropped, TellsIt, TellsOrDrops, TellsAndKeeps, StopsMessage, StopsTelling, HearsMessage, HearsHappening, HearsMarked, StopsMarked, HearsText, Hears, Stops, counted};
+    ghost use Rattle.dap_host.specs.Hearing.{IsFresh, IsGoing, RefusesMessage, TakesMessage, Comes, HearsTold, IsUnheard, AnswersMessage, dropped_line, TellsIt, TellsOrDrops, TellsAndKeeps, StopsMessage, StopsTelling, HearsMessage, HearsHappening, HearsMarked, StopsMarked, HearsText, Hears, Stops, counted};
     ghost use Rattle.dap_line.specs.Moments.{FileRefused, HasRoom};
     ghost use Rattle.dap_host.specs.PrivateKeeping.{AreAll, keeps_all};
     ghost use Rattle.dap_line.specs.Told.{said_of};
@@ -159,18 +145,15 @@ impl Host {
         // For the proof: no message is under way.
         limits_are_in_range(&limits);
         bodies_come_one_by_one::<Live>();
-        let mail = Rc::new(alloc, Mail::new(alloc))?;
-        let shared = mail.clone()?;
         let told = sources_in(alloc, bytes)?;
         let (sources, base) = match HostSources::open(alloc, &told) {
             Ok(opened) => opened,
             Err(fault) => return Err(fault),
         };
-        let live = Live::open(alloc, base, shared);
+        let live = Live::open(alloc, base);
         let adapter = Adapter::open(alloc, limits, live)?;
         Ok(Host {
             adapter,
-            mail,
             sources,
             limits,
             longest,
@@ -318,8 +301,8 @@ impl Host {
         limits_are_in_range(&self.limits);
         bodies_come_one_by_one::<Live>();
         let mut bytes = Vec::new(alloc);
-        match self.adapter.answer_body(alloc, body, &mut bytes) {
-            Ok(_ended) => self.hand_out(alloc, &bytes, out),
+        match answer_fed(alloc, &mut self.adapter, body, &mut bytes) {
+            Ok(acts) => hand_out(alloc, &bytes, &acts, out),
             Err(fault) => Err(break_off(&bytes, fault, out)),
         }
     }
@@ -348,7 +331,7 @@ impl Host {
         requires { IsGoing self.old }
         ensures hears { OnOk result (HearsHappening self.old text.now out.old.items out.new.items self.new) }
         ensures going { OnOk result (IsGoing self.new) }
-        ensures stops { IfErr result (λ fault. fault ≢ AdapterFault.OutOfMemory → ((coming : Coming) × HearsTold self.old text.now coming) × StopsTelling self.old out.old.items out.new.items self.new fault) }
+        ensures stops { IfErr result (λ fault. fault ≢ AdapterFault.OutOfMemory → (coming : Coming) × HearsTold self.old text.now coming × StopsTelling self.old coming out.old.items out.new.items self.new fault) }
     {
         match read_said(alloc, &mut self.scratch, text) {
             Ok(Said::Happened(told)) => self.hear_told(alloc, text, told, out),
@@ -387,7 +370,7 @@ impl Host {
         requires is { said_of text.now ≡ Ok (Said.Happened told) }
         ensures hears { OnOk result (HearsHappening self.old text.now out.old.items out.new.items self.new) }
         ensures going { OnOk result (IsGoing self.new) }
-        ensures stops { IfErr result (λ fault. fault ≢ AdapterFault.OutOfMemory → ((coming : Coming) × HearsTold self.old text.now coming) × StopsTelling self.old out.old.items out.new.items self.new fault) }
+        ensures stops { IfErr result (λ fault. fault ≢ AdapterFault.OutOfMemory → (coming : Coming) × HearsTold self.old text.now coming × StopsTelling self.old coming out.old.items out.new.items self.new fault) }
     {
         match self.coming_in(alloc, text, told) {
             Ok(coming) => self.hear_coming(alloc, text, coming, out),
@@ -408,7 +391,7 @@ impl Host {
         requires comes { Comes self.old _text.now coming }
         ensures hears { OnOk result (HearsHappening self.old _text.now out.old.items out.new.items self.new) }
         ensures going { OnOk result (IsGoing self.new) }
-        ensures stops { IfErr result (λ fault. fault ≢ AdapterFault.OutOfMemory → ((coming : Coming) × HearsTold self.old _text.now coming) × StopsTelling self.old out.old.items out.new.items self.new fault) }
+        ensures stops { IfErr result (λ fault. fault ≢ AdapterFault.OutOfMemory → HearsTold self.old _text.now coming × StopsTelling self.old coming out.old.items out.new.items self.new fault) }
     {
         if !self.has_room(&coming) {
             return self.refuse(Refusal::Dropped(Dropped::TooManySources), out);
@@ -426,30 +409,19 @@ impl Host {
         }
     }
 
-    /// Refuses the line, where the debuggee dropped what it told. Whether it did not. What the client was told is not refused,
-    /// and what it is to be told and was not is.
+    /// Refuses the line, where the debuggee dropped what it told.
     fn refuse_dropped(
         &self,
-        is_told: bool,
-        is_for_client: bool,
+        dropped: Option<Dropped>,
         out: &mut Vec<u8>,
-    ) -> Result<bool, AdapterFault>
-        ensures says { IfOk result (λ is_heard. SaysDropped is_heard self.now.number out.old.items out.new.items) }
-        ensures told { IfOk result (λ is_heard. is_told ≡ true → is_heard ≡ true) }
-        ensures untold { IfOk result (λ is_heard. is_for_client ≡ true → is_told ≡ false → is_heard ≡ false) }
+    ) -> Result<(), AdapterFault>
+        ensures says { OnOk result (out.new.items ≡ out.old.items ++ dropped_line self.now.number dropped) }
         ensures memory { IfErr result (λ fault. fault ≡ AdapterFault.OutOfMemory) }
     {
-        let why = self.mail.take_dropped();
-        if is_told {
-            return Ok(true);
+        match dropped {
+            Some(why) => self.refuse(Refusal::Dropped(why), out),
+            None => Ok(()),
         }
-        let why = match why {
-            Some(why) => why,
-            None if is_for_client => Dropped::OutOfTurn,
-            None => return Ok(true),
-        };
-        self.refuse(Refusal::Dropped(why), out)?;
-        Ok(false)
     }
 
     /// All sources, once those come that are told.
@@ -469,11 +441,11 @@ impl Host {
     }
 
     /// Keeps all sources, where what came is heard.
-    fn keep(&mut self, all: Option<Recorded>, is_heard: bool)
-        ensures { self.new ≡ keeps_all is_heard all self.old }
+    fn keep(&mut self, all: Option<Recorded>, dropped: Option<Dropped>)
+        ensures { self.new ≡ keeps_all dropped all self.old }
     {
         if let Some(all) = all {
-            if is_heard {
+            if dropped.is_none() {
                 self.sources.replace(all);
             }
         }
@@ -491,75 +463,76 @@ impl Host {
         requires room { HasRoom self.old.sources coming }
         ensures tells { OnOk result (TellsAndKeeps self.old coming out.old.items out.new.items self.new) }
         ensures going { OnOk result (IsGoing self.new) }
-        ensures stops { IfErr result (λ fault. fault ≢ AdapterFault.OutOfMemory → StopsTelling self.old out.old.items out.new.items self.new fault) }
+        ensures stops { IfErr result (λ fault. fault ≢ AdapterFault.OutOfMemory → StopsTelling self.old coming out.old.items out.new.items self.new fault) }
     {
         let Ok(all) = self.all_sources(alloc, &coming) else {
             return Err(AdapterFault::OutOfMemory);
         };
-        let is_heard = self.tell_or_refuse(alloc, coming, out)?;
-        self.keep(all, is_heard);
+        let dropped = self.tell_or_refuse(alloc, coming, out)?;
+        self.keep(all, dropped);
         Ok(())
     }
 
-    /// Lets the adapter tell what happened, and refuses the line where that is dropped after all.
+    /// Lets the adapter tell what happened, and refuses the line where that is dropped after all: why it is.
     fn tell_or_refuse(
         &mut self,
         alloc: Global,
         coming: Coming,
         out: &mut Vec<u8>,
-    ) -> Result<bool, AdapterFault>
+    ) -> Result<Option<Dropped>, AdapterFault>
         requires going { IsGoing self.old }
         requires in_a_run { has_debuggee self.old.adapter.session.phase ≡ true }
-        ensures tells { IfOk result (λ is_heard. TellsOrDrops self.old coming is_heard out.old.items out.new.items self.new) }
+        ensures tells { IfOk result (λ dropped. TellsOrDrops self.old coming dropped out.old.items out.new.items self.new) }
         ensures going { OnOk result (IsGoing self.new) }
-        ensures stops { IfErr result (λ fault. fault ≢ AdapterFault.OutOfMemory → StopsTelling self.old out.old.items out.new.items self.new fault) }
+        ensures stops { IfErr result (λ fault. fault ≢ AdapterFault.OutOfMemory → StopsTelling self.old coming out.old.items out.new.items self.new fault) }
     {
-        let is_for_client = is_for_client(&coming);
-        let is_told = self.tell(alloc, coming, out)?;
-        self.refuse_dropped(is_told, is_for_client, out)
+        let dropped = self.tell(alloc, coming, out)?;
+        self.refuse_dropped(dropped, out)?;
+        Ok(dropped)
     }
 
-    /// Lets the adapter tell what happened. Whether it told the client anything.
+    /// Lets the adapter tell what happened: why it is dropped, if it is.
     fn tell(
         &mut self,
         alloc: Global,
         coming: Coming,
         out: &mut Vec<u8>,
-    ) -> Result<bool, AdapterFault>
+    ) -> Result<Option<Dropped>, AdapterFault>
         requires going { IsGoing self.old }
         requires in_a_run { has_debuggee self.old.adapter.session.phase ≡ true }
-        ensures tells { IfOk result (λ is_told. TellsIt self.old is_told out.old.items out.new.items self.new) }
+        ensures tells { IfOk result (λ dropped. TellsIt self.old coming dropped out.old.items out.new.items self.new) }
         ensures going { OnOk result (IsGoing self.new) }
-        ensures stops { IfErr result (λ fault. fault ≢ AdapterFault.OutOfMemory → StopsTelling self.old out.old.items out.new.items self.new fault) }
+        ensures stops { IfErr result (λ fault. fault ≢ AdapterFault.OutOfMemory → StopsTelling self.old coming out.old.items out.new.items self.new fault) }
     {
         // For the proof: no message is under way.
         bodies_come_one_by_one::<Live>();
-        self.mail.post(coming);
         let mut bytes = Vec::new(alloc);
-        match self.adapter.tell(alloc, &mut bytes) {
-            Ok(()) => match self.hand_out(alloc, &bytes, out) {
-                Ok(()) => Ok(!bytes.is_empty()),
-                Err(fault) => Err(fault),
+        match tell_fed(alloc, &mut self.adapter, coming, &mut bytes) {
+            Ok(dropped) => match push_messages(&bytes, out) {
+                Ok(()) => Ok(dropped),
+                Err(_) => Err(AdapterFault::OutOfMemory),
             },
             Err(fault) => Err(break_off(&bytes, fault, out)),
         }
     }
+}
 
-    /// Appends the lines of what the adapter wrote, and of what the debugger has to do.
-    fn hand_out(&self, alloc: Global, bytes: &[u8], out: &mut Vec<u8>) -> Result<(), AdapterFault>
-        ensures out { OnOk result ((outs : List Message) → bytes.now ≡ bytes_of outs → HandsOut outs out.old.items out.new.items) }
-        ensures memory { IfErr result (λ fault. fault ≡ AdapterFault.OutOfMemory) }
-    {
-        let Ok(acts) = self.mail.take_acts(alloc) else {
-            return Err(AdapterFault::OutOfMemory);
-        };
-        if push_messages(bytes, out).is_err() {
-            return Err(AdapterFault::OutOfMemory);
-        }
-        match push_acts(alloc, out, &acts) {
-            Ok(()) => Ok(()),
-            Err(_) => Err(AdapterFault::OutOfMemory),
-        }
+/// Appends the lines of what the adapter wrote, and of what the debugger has to do.
+fn hand_out(
+    alloc: Global,
+    bytes: &[u8],
+    acts: &[HostAct],
+    out: &mut Vec<u8>,
+) -> Result<(), AdapterFault>
+    ensures out { OnOk result ((outs : List Message) → bytes.now ≡ bytes_of outs → out.new.items ≡ out.old.items ++ (message_lines outs ++ act_lines acts.now)) }
+    ensures memory { IfErr result (λ fault. fault ≡ AdapterFault.OutOfMemory) }
+{
+    if push_messages(bytes, out).is_err() {
+        return Err(AdapterFault::OutOfMemory);
+    }
+    match push_acts(alloc, out, acts) {
+        Ok(()) => Ok(()),
+        Err(_) => Err(AdapterFault::OutOfMemory),
     }
 }
 

@@ -6,6 +6,7 @@
 //! a `Live` is called; it must not know what a request comes to, nor header bytes.
 #![tactic(auto)]
 
+mod fed;
 mod fetching;
 mod host;
 mod hosting;

@@ -1,19 +1,22 @@
-use Rattle.std.proofs.Common.{refl, ◌∙◌}
+use Rattle.std.proofs.Common.{refl, sym, ap, ◌∙◌}
 use Rattle.std.proofs.lemmas.Result.{on_ok_weaker}
-use Rattle.dap_host.proofs.GoingLemmas.{answered_at, goes_on_at, stopped_at}
+use Rattle.dap_host.proofs.GoingLemmas.{answered_at, goes_on_at, stopped_at, none_met}
 use Rattle.dap_host.proofs.host.Host.answer.Goals as goal
+
+pub answer_fed-requires-open : goal.answer_fed-requires-open
+answer_fed-requires-open c = none_met _ c.args.self.now c.self.view_is c.requires.going
 
 pub returns-in-Ok-clause-answers : goal.returns-in-Ok-clause-answers
 returns-in-Ok-clause-answers c = on_ok_weaker c.hand_out.result (λ out.
-    answered_at _ c.args.self.now _ c.args.body.now c.new-bytes.result.items c.answer_body.new.out.items c.args.out.now.items c.hand_out.new.out.items c.in-Ok._ended c.self.view_is c.requires.going c.limits_are_in_range.ensures c.bodies_come_one_by_one.ensures c.requires.takes
-    c.new-bytes.ensures.items c.in-Ok.ensures.answers (λ outs are. out outs (c.deref.ensures.value ∙ are)) (record { sources = refl; limits = refl; longest = refl; number = refl })) c.hand_out.ensures.out
+    answered_at _ c.args.self.now _ c.args.body.now c.answer_fed.new.bytes.items c.args.out.now.items c.hand_out.new.out.items c.in-Ok.acts.items c.self.view_is c.requires.going c.limits_are_in_range.ensures c.bodies_come_one_by_one.ensures c.requires.takes
+    c.in-Ok.ensures.answers (λ outs are. out outs (c.deref.ensures.value ∙ are)) (record { sources = refl; limits = refl; longest = refl; number = refl })) c.hand_out.ensures.out
 
 pub returns-in-Ok-clause-going : goal.returns-in-Ok-clause-going
 returns-in-Ok-clause-going c = on_ok_weaker c.hand_out.result (λ out.
-    goes_on_at _ c.args.self.now _ c.args.body.now c.new-bytes.result.items c.answer_body.new.out.items c.in-Ok._ended c.self.view_is c.requires.going c.limits_are_in_range.ensures c.bodies_come_one_by_one.ensures c.requires.takes
-    c.new-bytes.ensures.items c.in-Ok.ensures.answers refl) c.hand_out.ensures.out
+    goes_on_at _ c.args.self.now _ c.args.body.now c.answer_fed.new.bytes.items c.in-Ok.acts.items c.self.view_is c.requires.going c.limits_are_in_range.ensures c.bodies_come_one_by_one.ensures c.requires.takes
+    c.in-Ok.ensures.answers refl) c.hand_out.ensures.out
 
 pub returns-clause-stops : goal.returns-clause-stops
 returns-clause-stops c = λ some.
-    stopped_at _ c.args.self.now _ c.args.body.now c.new-bytes.result.items c.answer_body.new.out.items c.args.out.now.items c.break_off.new.out.items c.in-Err.fault c.break_off.result c.self.view_is c.requires.going
-    c.new-bytes.ensures.items (c.break_off.ensures.is some) c.in-Err.ensures.stops (λ outs are. c.break_off.ensures.out some outs (c.deref-in-Err.ensures.value ∙ are))
+    stopped_at _ c.args.self.now _ c.args.body.now c.answer_fed.new.bytes.items c.args.out.now.items c.break_off.new.out.items c.in-Err.fault c.break_off.result c.self.view_is (c.break_off.ensures.is some)
+    (c.in-Err.ensures.stops (λ memory. some (c.break_off.ensures.is some ∙ memory))) (λ outs are. c.break_off.ensures.out some outs (c.deref-in-Err.ensures.value ∙ are))

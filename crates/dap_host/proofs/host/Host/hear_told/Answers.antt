@@ -9,7 +9,7 @@ use Rattle.dap_line.specs.declared.told.Unread.{Unread}
 use Rattle.dap_host.proofs.host.Host.hear_told.Goals as goal
 
 pub returns-in-Ok-clause-stops : goal.returns-in-Ok-clause-stops
-returns-in-Ok-clause-stops c = subst (λ (h : HostState). IfErr c.hear_coming.result (λ fault. fault ≢ OutOfMemory → ((coming : Coming) × HearsTold h c.args.text.now coming) × StopsTelling h c.args.out.now.items c.hear_coming.new.out.items c.hear_coming.new.self fault))
+returns-in-Ok-clause-stops c = subst (λ (h : HostState). IfErr c.hear_coming.result (λ fault. fault ≢ OutOfMemory → (coming : Coming) × HearsTold h c.args.text.now coming × StopsTelling h coming c.args.out.now.items c.hear_coming.new.out.items c.hear_coming.new.self fault))
     c.in-Ok.ensures.same c.hear_coming.ensures.stops
 
 pub returns-in-Err-Refused-clause-hears : goal.returns-in-Err-Refused-clause-hears

@@ -30,4 +30,4 @@ returns-clause-fresh c = record {
 }
 
 pub returns-clause-going : goal.returns-clause-going
-returns-clause-going c = fresh_going _ c.args.limits c.in_ok-adapter.ensures.stands c.in_ok-adapter.ensures.session refl c.limits_are_in_range.ensures c.bodies_come_one_by_one.ensures
+returns-clause-going c = fresh_going _ c.args.limits c.in-Ok.opened.1 c.in_ok-adapter.ensures.stands c.in_ok-adapter.ensures.session (c.in_ok-adapter.ensures.debuggee ∙ c.open-live.ensures) refl c.limits_are_in_range.ensures c.bodies_come_one_by_one.ensures

@@ -1,14 +1,10 @@
-use Rattle.std.proofs.Common.{◌∙◌, subst}
-use Rattle.dap_host.specs.Hearing.{SaysDropped}
-use Rattle.dap_host.proofs.GoingLemmas.{ok_by_three}
+use Rattle.std.proofs.Common.{◌≡◌, ◌++◌, subst}
+use Rattle.dap_host.specs.Hearing.{dropped_line}
 use Rattle.dap_host.proofs.host.Host.tell_or_refuse.Goals as goal
 
 pub returns-clause-tells : goal.returns-clause-tells
-returns-clause-tells c = ok_by_three c.refuse_dropped.result (λ is_heard says told untold. record {
+returns-clause-tells c = record {
   lines = c.tell.new.out.items;
-  is_told = c.in_ok-is_told.is_told;
-  tells = c.in_ok-is_told.ensures.tells;
-  says = subst (λ n. SaysDropped is_heard n c.tell.new.out.items c.refuse_dropped.new.out.items) c.in_ok-is_told.ensures.tells.same.number says;
-  told = told;
-  untold = λ due no. untold (c.is_for_client-is_for_client.ensures ∙ due) no;
-}) c.refuse_dropped.ensures.says c.refuse_dropped.ensures.told c.refuse_dropped.ensures.untold
+  tells = c.in_ok-dropped.ensures.tells;
+  says = subst (λ n. c.refuse_dropped.new.out.items ≡ c.tell.new.out.items ++ dropped_line n c.in_ok-dropped.dropped) c.in_ok-dropped.ensures.tells.same.number c.in_ok.ensures.says;
+}
