@@ -23,7 +23,7 @@ pub(crate) struct Walk<'a> {
 }
 
 /// Takes the lines before this number.
-fn walk_to(alloc: Global, bytes: &[u8], number: u64) -> Result<Walk<'_>, CheckFault>
+fn walk_to<'a>(alloc: Global, bytes: &'a [u8], number: u64) -> Result<Walk<'a>, CheckFault>
     ensures walk { IfOk result (λ walk. IsWalk bytes.entry.now walk.rest.now walk.checker × IsAt number walk.rest.now walk.checker) }
     ensures refused { IfErr result (FirstRefused (take number (lines bytes.entry.now))) }
 {

@@ -302,8 +302,8 @@ module _ (options : CheckOptions) (lines : List Line) (listing : Listing) (so : 
       → all ≡ hinted ++ open_text options.unanswered options.explained (open_requests lines) → all ≡ text_of_verdict options lines
   text_so counted hinted all is_counted is_hinted is_all =
       let texts = texts_of options.any_seq options.explained options.bodies lines in
-      let open = open_text options.unanswered options.explained (open_requests lines) in
+      let unanswered = open_text options.unanswered options.explained (open_requests lines) in
       let closed : counted ≡ findings_text options.all texts = is_counted ∙ ap (λ z. z ++ closing_text options.all listing.count) so.text ∙ ap (λ n. Shown options.all texts ++ closing_text options.all n) so.count in
       let hint : hint_by (nat_le 2 listing.client.count && listing.client.each_breaks) (nat_le 2 listing.adapter.count && listing.adapter.each_breaks) ≡ hint_if options.explained options.any_seq lines =
       ap (λ b. hint_by b (nat_le 2 listing.adapter.count && listing.adapter.each_breaks)) (own_so Client listing.client so.client) ∙ ap (hint_by (numbers_itself options.any_seq lines Client)) (own_so Adapter listing.adapter so.adapter) in
-      is_all ∙ ap (λ z. z ++ open) (is_hinted ∙ ap (λ z. z ++ hint_by (nat_le 2 listing.client.count && listing.client.each_breaks) (nat_le 2 listing.adapter.count && listing.adapter.each_breaks)) closed ∙ ap (λ z. findings_text options.all texts ++ z) hint)
+      is_all ∙ ap (λ z. z ++ unanswered) (is_hinted ∙ ap (λ z. z ++ hint_by (nat_le 2 listing.client.count && listing.client.each_breaks) (nat_le 2 listing.adapter.count && listing.adapter.each_breaks)) closed ∙ ap (λ z. findings_text options.all texts ++ z) hint)

@@ -36,11 +36,7 @@ fn push_reason(alloc: Global, text: &mut Vec<u8>, reason: Reason) -> Result<(), 
     text.extend_from_slice(b"\n")
 }
 
-fn push_why(
-    alloc: Global,
-    text: &mut Vec<u8>,
-    reason: Option<Reason>,
-) -> Result<(), AllocError>
+fn push_why(alloc: Global, text: &mut Vec<u8>, reason: Option<Reason>) -> Result<(), AllocError>
     ensures { OnOk result (text.new.items ≡ text.old.items ++ text_of_why reason) }
 {
     match reason {
