@@ -132,12 +132,16 @@ module _ (any_seq : AnySeq) (side : Side) where
   counted true n = refl
   counted false n = omega arith
 
-  abbrev after_by : Bool → Bool → SideNumbers → SideNumbers
+  abbrev pub after_by : Bool → Bool → SideNumbers → SideNumbers
   after_by is_its breaks numbers = if is_its then record { count = numbers.count + 1; each_breaks = numbers.each_breaks && breaks } else numbers
 
   step_count : (is_its breaks : Bool) (numbers : SideNumbers) → (after_by is_its breaks numbers).count ≡ cond is_its (numbers.count + 1) numbers.count
   step_count true breaks numbers = refl
   step_count false breaks numbers = refl
+
+  pub side_few : (is_its breaks : Bool) (numbers new : SideNumbers) (n : ℕ) → new ≡ after_by is_its breaks numbers → numbers.count < n → new.count < n + 1
+  side_few true breaks numbers new n e less = let one = ap (λ (x : SideNumbers). x.count) e in omega (arith, one, less)
+  side_few false breaks numbers new n e less = let same = ap (λ (x : SideNumbers). x.count) e in omega (arith, same, less)
 
   step_each : (is_its breaks : Bool) (numbers : SideNumbers) → (after_by is_its breaks numbers).each_breaks ≡ (numbers.each_breaks && (not is_its || breaks))
   step_each true breaks numbers = refl
@@ -152,6 +156,10 @@ module _ (any_seq : AnySeq) (side : Side) where
         ap (λ (x : SideNumbers). x.each_breaks) e ∙ step_each (is_of side line) (is_rule_1 (least_broken any_seq lines line)) numbers
         ∙ ap (λ b. b && (not (is_of side line) || is_rule_1 (least_broken any_seq lines line))) is.each ∙ sym (each_push [] lines line);
   }
+
+pub count_few : (b : Bool) (old new n : ℕ) → new ≡ (if b then old + 1 else old) → old < n → new < n + 1
+count_few true old new n e less = omega (arith, e, less)
+count_few false old new n e less = omega (arith, e, less)
 
 -- what is printed, one line later
 module _ (options : CheckOptions) (lines : List Line) (line : Line) (told : LineTold) (is : IsTold (mode_of options) lines line told) (old new : Listing) (so : IsPrinted options lines old) where

@@ -35,13 +35,13 @@ fn is_shown(all: bool, count: u64) -> bool
 fn push_if(
     alloc: Global,
     text: &mut Vec<u8>,
-    is_shown: bool,
+    shown: bool,
     explained: bool,
     told: &LineTold,
 ) -> Result<(), AllocError>
-    ensures { OnOk result ((line : TheLine) → IsGivenFor line told.now.found → text.new.items ≡ (if is_shown then text.old.items ++ joined_text (texts_told explained told.now.found.number told.now.reason line told.now.found.broken) else text.old.items)) }
+    ensures { OnOk result ((line : TheLine) → IsGivenFor line told.now.found → text.new.items ≡ (if shown then text.old.items ++ joined_text (texts_told explained told.now.found.number told.now.reason line told.now.found.broken) else text.old.items)) }
 {
-    if !is_shown {
+    if !shown {
         return Ok(());
     }
     push_told(alloc, text, explained, told)
@@ -87,8 +87,8 @@ impl Listing {
         ensures same { self.new.checker ≡ self.old.checker }
     {
         let broken = &told.found.broken;
-        let is_shown = is_shown(options.all, self.count);
-        push_if(alloc, &mut self.text, is_shown, options.explained, told)?;
+        let shown = is_shown(options.all, self.count);
+        push_if(alloc, &mut self.text, shown, options.explained, told)?;
         self.count = counted(self.count, broken.is_some());
         let breaks = is_of_rule_1(broken);
         let side = told.found.side;

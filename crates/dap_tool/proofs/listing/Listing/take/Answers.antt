@@ -22,3 +22,25 @@ returns-in-Ok-clause-listed c = λ texts lines is.
         printed = listed.printed lines line takes.1.2 (record { text = is.printed.text; count = is.printed.count; client = is.printed.client; adapter = is.printed.adapter });
       },
     )
+
+pub list-requires : goal.list-requires
+list-requires c =
+    let few = c.requires.few in
+    record { count = omega (arith, few.count, c.requires.room); client = omega (arith, few.client, c.requires.room); adapter = omega (arith, few.adapter, c.requires.room) }
+
+pub returns-in-None-clause-few : goal.returns-in-None-clause-few
+returns-in-None-clause-few c =
+    let few = c.requires.few in
+    let one = c.in_ok-line.ensures.one in
+    record { count = omega (arith, few.count, one); client = omega (arith, few.client, one); adapter = omega (arith, few.adapter, one) }
+
+pub returns-in-Ok-clause-few : goal.returns-in-Ok-clause-few
+returns-in-Ok-clause-few c =
+    let few = c.requires.few in
+    let one = c.in_ok-line.ensures.one in
+    let listed = c.in-Ok.ensures in
+    let later = listed.few (noted_by c.args.self.now.checker + 1) (record { count = few.count; client = few.client; adapter = few.adapter }) in
+    subst (λ (checker : ExplainedChecker). AreFew (noted_by checker + 1) c.list.new.self) (sym listed.same) (subst (λ n. AreFew (n + 1) c.list.new.self) (sym one) later)
+
+pub returns-in-Err-clause-refused : goal.returns-in-Err-clause-refused
+returns-in-Err-clause-refused c = (tt, subst (λ (o : Option LineTold). IfSome o (λ line. 0 < length c.args.text.now)) c.in-Some.is c.in_ok-line.ensures.bytes)
