@@ -15,6 +15,11 @@ use Rattle.dap_explain.specs.declared.told.LineTold.{LineTold}
 pub none_read : (bytes : List ℕ) (checker : ExplainedChecker) → HasNoted explaining [] [] checker → IsWalk bytes bytes checker
 none_read bytes checker is = let none = is.taken.count in record { before = []; split = refl; few = omega (arith, none); read = []; noted = is }
 
+-- one text more
+pub noted_more : (texts : List (List ℕ)) (read : List Line) (text : List ℕ) (told : Option LineTold) (new : ExplainedChecker) → TakesAndTells explaining texts read text told new → (more : List Line) × HasNoted explaining (texts ++ text ∷ []) more new
+noted_more texts read text None new takes = (read, takes.1)
+noted_more texts read text (Some told) new takes = (read ++ takes.1.0 ∷ [], takes.1.3)
+
 no_lines : (rest : List ℕ) → length rest ≡ 0 → lines rest ≡ []
 no_lines [] h = refl
 no_lines (x ∷ xs) h = absurd (omega arith)
@@ -53,6 +58,5 @@ module _ (bytes rest : List ℕ) (checker : ExplainedChecker) (so : IsWalk bytes
         let more = up_to number ahead in
         record { before = so.before; text = text; after = more.0; split = more.1; lines = so.read; accepted = so.noted.taken.are; has_bytes = some; refuses = subst (λ n. Refuses (n + 1) text fault) count says }
 
-    pub read_more : length later < length rest → (told : Option LineTold) (new : ExplainedChecker) → TakesAndTells explaining so.before so.read text told new → noted_by new ≡ noted_by checker + 1 → IsWalk bytes later new
-    read_more shorter None new takes one = record { before = so.before ++ text ∷ []; split = more; few = omega (arith, so.few, one, shorter); read = so.read; noted = takes.1 }
-    read_more shorter (Some told) new takes one = record { before = so.before ++ text ∷ []; split = more; few = omega (arith, so.few, one, shorter); read = so.read ++ takes.1.0 ∷ []; noted = takes.1.3 }
+    pub read_more : length later < length rest → (new : ExplainedChecker) (read : List Line) → HasNoted explaining (so.before ++ text ∷ []) read new → noted_by new ≡ noted_by checker + 1 → IsWalk bytes later new
+    read_more shorter new read noted one = record { before = so.before ++ text ∷ []; split = more; few = omega (arith, so.few, one, shorter); read = read; noted = noted }

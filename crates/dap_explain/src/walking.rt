@@ -1,11 +1,11 @@
 //! Why one line of a transcript breaks a rule: the lines before it, taken once.
-ghost use Rattle.std.specs.Prelude.{◌≡◌, ◌≢◌, ◌⊎◌, ◌+◌, ◌-◌, ◌^◌, ◌<◌, ◌==◌, ◌∷◌, ◌++◌, [], List, ℕ, take, false, IfOk, IfErr};
+ghost use Rattle.std.specs.Prelude.{◌≡◌, ◌≢◌, ◌⊎◌, ◌+◌, ◌-◌, ◌^◌, ◌<◌, ◌==◌, ◌∷◌, ◌++◌, [], List, ℕ, length, take, false, OnOk, IfOk, IfErr};
 ghost use Rattle.std.specs.List.{list_any};
 ghost use Rattle.std.specs.Str.Lines.{lines};
-ghost use Rattle.dap_explain.specs.Explained.{noted_by};
-ghost use Rattle.dap_explain.specs.PrivateWalks.{IsWalk, IsAt, IsExplained};
+ghost use Rattle.dap_explain.specs.Explained.{HasNoted, noted_by};
+ghost use Rattle.dap_explain.specs.PrivateWalks.{explaining, IsWalk, IsAt, IsExplained};
 ghost use Rattle.dap_explain.specs.Reasons.{reason_of};
-ghost use Rattle.dap_check.specs.Transcript.{AreLines, FirstRefused, IsRefusedIn};
+ghost use Rattle.dap_check.specs.Transcript.{AreLines, Refuses, FirstRefused, IsRefusedIn};
 ghost use Rattle.dap_check.specs.declared.checking.CheckFault.{CheckFault};
 ghost use Rattle.dap_check.specs.declared.line.Line.{Line as TheLine};
 
@@ -22,6 +22,18 @@ pub(crate) struct Walk<'a> {
     pub(crate) rest: &'a [u8],
 }
 
+/// Takes the text of the next line.
+fn take_text(alloc: Global, checker: &mut ExplainedChecker, text: &[u8]) -> Result<(), CheckFault>
+    requires { noted_by checker.old < 2 ^ 64 - 1 }
+    ensures noted { OnOk result ((texts : List (List ℕ)) (read : List TheLine) → HasNoted explaining texts read checker.old → (more : List TheLine) × HasNoted explaining (texts ++ text.now ∷ []) more checker.new) }
+    ensures one { OnOk result (noted_by checker.new ≡ noted_by checker.old + 1) }
+    ensures refused { IfErr result (λ fault. Refuses (noted_by checker.old + 1) text.now fault × (0 < length text.now)) }
+{
+    let told = checker.line(alloc, text)?;
+    drop(told);
+    Ok(())
+}
+
 /// Takes the lines before this number.
 fn walk_to<'a>(alloc: Global, bytes: &'a [u8], number: u64) -> Result<Walk<'a>, CheckFault>
     ensures walk { IfOk result (λ walk. IsWalk bytes.entry.now walk.rest.now walk.checker × IsAt number walk.rest.now walk.checker) }
@@ -36,7 +48,7 @@ fn walk_to<'a>(alloc: Global, bytes: &'a [u8], number: u64) -> Result<Walk<'a>, 
     let mut rest = bytes;
     while !rest.is_empty() && checker.taken() + 1 < number {
         let (text, later) = split_line(rest);
-        let _told = checker.line(alloc, text)?;
+        take_text(alloc, &mut checker, text)?;
         rest = later;
     }
     Ok(Walk { checker, rest })

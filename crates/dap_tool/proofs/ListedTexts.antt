@@ -25,13 +25,20 @@ use Rattle.dap_shape.specs.Faults.{fault_in}
 use Rattle.dap_shape.specs.Seen.{fault_seen}
 use Rattle.dap_shape.specs.Shapes.{Fault}
 use Rattle.dap_tool.specs.Hints.{is_rule_1, each_breaks, hint_text, hint_if, numbers_itself}
-use Rattle.dap_tool.specs.PrivateListed.{mode_of, IsGivenFor, texts_told, breaks_rule_1, AreSide, IsPrinted}
+use Rattle.dap_tool.specs.PrivateListed.{mode_of, IsGivenFor, text_told, breaks_rule_1, AreSide, IsPrinted}
 use Rattle.dap_tool.specs.Verdicts.{text_of_finding, text_of_why, text_of_fault, texts_of_body, text_if, texts_after, texts_of, closing_text, findings_text, open_text, text_of_verdict, has_fault}
 use Rattle.dap_tool.specs.declared.listing.Listing.{Listing}
 use Rattle.dap_tool.specs.declared.numbering.SideNumbers.{SideNumbers}
 use Rattle.dap_tool.specs.declared.verdict.CheckOptions.{CheckOptions}
 
 -- ---- of a line, by what was found of it
+
+abbrev texts_told : Bool → ℕ → Option Reason → Line → Option Broken → List (List ℕ)
+texts_told explained number reason line broken = if is_some broken then text_told explained number reason line broken ∷ [] else []
+
+joined_told : (explained : Bool) (number : ℕ) (reason : Option Reason) (line : Line) (broken : Option Broken) → joined_text (texts_told explained number reason line broken) ≡ text_told explained number reason line broken
+joined_told explained number reason line None = refl
+joined_told explained number reason line (Some broken) = append-nil (text_told explained number reason line (Some broken))
 
 module _ (options : CheckOptions) (earlier : List Line) (line : Line) where
   abbrev texts_here : List (List ℕ)
@@ -72,8 +79,7 @@ module _ (options : CheckOptions) (earlier : List Line) (line : Line) where
   -- as many as it breaks rules
   told_count : (explained : Bool) (number : ℕ) (reason : Option Reason) (broken : Option Broken) → length (texts_told explained number reason line broken) ≡ (if is_some broken then 1 else 0)
   told_count explained number reason None = refl
-  told_count explained number reason (Some (OfRule rule)) = refl
-  told_count explained number reason (Some (OfBody fault)) = refl
+  told_count explained number reason (Some broken) = refl
 
   rule_1_by : (broken : Option Broken) → IsBroken (mode_of options) earlier line broken → breaks_rule_1 broken ≡ is_rule_1 (least_broken options.any_seq earlier line)
   rule_1_by None is = sym (ap is_rule_1 is.0)
@@ -183,7 +189,7 @@ module _ (options : CheckOptions) (lines : List Line) (line : Line) (told : Line
       ∙ ap (λ b. after_by options.any_seq side (is_of side line) b numbers) (rule_1_by options lines line told.found.broken is.found.broken))
       are
 
-  pub printed_more : new.text.items ≡ (if options.all || (old.count == 0) then old.text.items ++ joined_text of_line else old.text.items) → new.count ≡ (if is_some told.found.broken then old.count + 1 else old.count)
+  pub printed_more : new.text.items ≡ (if options.all || (old.count == 0) then old.text.items ++ text_told options.explained told.found.number told.reason line told.found.broken else old.text.items) → new.count ≡ (if is_some told.found.broken then old.count + 1 else old.count)
       → new.client ≡ after_by options.any_seq Client (same_side Client told.found.side) (breaks_rule_1 told.found.broken) old.client → new.adapter ≡ after_by options.any_seq Adapter (same_side Adapter told.found.side) (breaks_rule_1 told.found.broken) old.adapter
       → IsPrinted options (lines ++ line ∷ []) new
   printed_more text count client adapter =
@@ -191,6 +197,7 @@ module _ (options : CheckOptions) (lines : List Line) (line : Line) (told : Line
       record {
         text =
             text
+            ∙ ap (λ z. if options.all || (old.count == 0) then old.text.items ++ z else old.text.items) (sym (joined_told options.explained told.found.number told.reason line told.found.broken))
             ∙ ap (λ z. if options.all || (old.count == 0) then z ++ joined_text of_line else z) so.text
             ∙ sym (shown_by options.all (old.count == 0) so_far of_line (ap (λ n. n == 0) so.count) few)
             ∙ ap (Shown options.all) (sym pushed);

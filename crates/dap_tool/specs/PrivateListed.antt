@@ -31,10 +31,10 @@ abbrev pub IsGivenFor : Line → LineFound → Type 0
 IsGivenFor line found = is_of_body found.broken ≡ true → found.line ≡ Some line
 
 -- what is printed of it
-abbrev pub texts_told : Bool → ℕ → Option Reason → Line → Option Broken → List (List ℕ)
-texts_told explained number reason line None = []
-texts_told explained number reason line (Some (OfRule rule)) = (text_of_finding number rule ++ text_of_why reason) ∷ []
-texts_told explained number reason line (Some (OfBody fault)) = text_of_fault explained number line.message.kind (fault_seen fault) ∷ []
+abbrev pub text_told : Bool → ℕ → Option Reason → Line → Option Broken → List ℕ
+text_told explained number reason line None = []
+text_told explained number reason line (Some (OfRule rule)) = text_of_finding number rule ++ text_of_why reason
+text_told explained number reason line (Some (OfBody fault)) = text_of_fault explained number line.message.kind (fault_seen fault)
 
 abbrev pub breaks_rule_1 : Option Broken → Bool
 breaks_rule_1 None = false

@@ -1,11 +1,10 @@
 //! What is printed of a line that breaks a rule: the line, the rule, and why where that is asked for.
-ghost use Rattle.std.specs.Prelude.{◌≡◌, ◌++◌, codes, decimal, Some, if◌then◌else◌, IfOk, OnOk, string_bytes};
+ghost use Rattle.std.specs.Prelude.{◌≡◌, ◌++◌, codes, decimal, Some, IfOk, OnOk, string_bytes};
 ghost use Rattle.dap_check.specs.declared.line.Line.{Line as TheLine};
-ghost use Rattle.dap_explain.specs.Sentences.{joined_text};
 ghost use Rattle.dap_shape.specs.Seen.{fault_seen};
 ghost use Rattle.dap_shape.specs.Sentences.{sentence_of};
 ghost use Rattle.dap_tool.specs.Verdicts.{text_of_finding, text_of_reason, text_of_why, text_of_fault};
-ghost use Rattle.dap_tool.specs.PrivateListed.{IsGivenFor, texts_told};
+ghost use Rattle.dap_tool.specs.PrivateListed.{IsGivenFor, text_told};
 
 use dap_check::{Broken, Line, Rule};
 use dap_envelope::Kind;
@@ -72,6 +71,21 @@ fn push_sentence(
     text.extend_from_slice(b"\n")
 }
 
+/// The same of a line that is given.
+fn push_sentence_of(
+    alloc: Global,
+    text: &mut Vec<u8>,
+    line: &Option<Line>,
+    fault: &ShapeFault,
+) -> Result<(), AllocError>
+    ensures { OnOk result ((real : TheLine) → line.now ≡ Some real → text.new.items ≡ text.old.items ++ (sentence_of real.message.kind (fault_seen fault.now) ++ codes "\n")) }
+{
+    match line {
+        None => Ok(()),
+        Some(line) => push_sentence(alloc, text, &line.message.kind, fault),
+    }
+}
+
 /// Of a line that breaks rule 8, which is given.
 fn push_fault(
     alloc: Global,
@@ -84,10 +98,10 @@ fn push_fault(
     ensures { OnOk result ((real : TheLine) → line.now ≡ Some real → text.new.items ≡ text.old.items ++ text_of_fault explained number real.message.kind (fault_seen fault.now)) }
 {
     push_rule(alloc, text, number, 8)?;
-    match (explained, line) {
-        (true, Some(line)) => push_sentence(alloc, text, &line.message.kind, fault),
-        _ => Ok(()),
+    if !explained {
+        return Ok(());
     }
+    push_sentence_of(alloc, text, line, fault)
 }
 
 /// Appends what is printed of a line; nothing where it breaks no rule.
@@ -97,7 +111,7 @@ pub(crate) fn push_told(
     explained: bool,
     told: &LineTold,
 ) -> Result<(), AllocError>
-    ensures { OnOk result ((line : TheLine) → IsGivenFor line told.now.found → text.new.items ≡ text.old.items ++ joined_text (texts_told explained told.now.found.number told.now.reason line told.now.found.broken)) }
+    ensures { OnOk result ((line : TheLine) → IsGivenFor line told.now.found → text.new.items ≡ text.old.items ++ text_told explained told.now.found.number told.now.reason line told.now.found.broken) }
 {
     let number = told.found.number;
     match &told.found.broken {

@@ -4,8 +4,7 @@ ghost use Rattle.std.specs.Str.Lines.{lines};
 ghost use Rattle.dap_check.specs.Transcript.{Refuses, FirstRefused};
 ghost use Rattle.dap_check.specs.declared.line.Line.{Line as TheLine};
 ghost use Rattle.dap_explain.specs.Explained.{IsTold, noted_by};
-ghost use Rattle.dap_explain.specs.Sentences.{joined_text};
-ghost use Rattle.dap_tool.specs.PrivateListed.{mode_of, IsGivenFor, texts_told, IsPrinted, IsListed, AreFew};
+ghost use Rattle.dap_tool.specs.PrivateListed.{mode_of, IsGivenFor, text_told, IsPrinted, IsListed, AreFew};
 
 use crate::finding::push_told;
 use crate::numbering::{SideNumbers, are_same, is_of_rule_1};
@@ -39,7 +38,7 @@ fn push_if(
     explained: bool,
     told: &LineTold,
 ) -> Result<(), AllocError>
-    ensures { OnOk result ((line : TheLine) → IsGivenFor line told.now.found → text.new.items ≡ (if shown then text.old.items ++ joined_text (texts_told explained told.now.found.number told.now.reason line told.now.found.broken) else text.old.items)) }
+    ensures { OnOk result ((line : TheLine) → IsGivenFor line told.now.found → text.new.items ≡ (if shown then text.old.items ++ text_told explained told.now.found.number told.now.reason line told.now.found.broken else text.old.items)) }
 {
     if !shown {
         return Ok(());
