@@ -214,6 +214,18 @@ module _ (options : CheckOptions) (lines : List Line) (line : Line) (told : Line
       count_so true k n e = omega (arith, e)
       count_so false k n e = omega (arith, e)
 
+-- ---- before the first line
+
+no_side : (any_seq : AnySeq) (side : Side) (numbers : SideNumbers) → numbers ≡ record { count = 0; each_breaks = true } → AreSide any_seq side [] numbers
+no_side any_seq side numbers e = record { count = ap (λ (x : SideNumbers). x.count) e; each = ap (λ (x : SideNumbers). x.each_breaks) e }
+
+none_shown : (all : Bool) → [] ≡ Shown all []
+none_shown true = refl
+none_shown false = refl
+
+pub nothing_printed : (options : CheckOptions) (listing : Listing) → listing.text.items ≡ [] → listing.count ≡ 0 → listing.client ≡ record { count = 0; each_breaks = true } → listing.adapter ≡ record { count = 0; each_breaks = true } → IsPrinted options [] listing
+nothing_printed options listing text count client adapter = record { text = text ∙ none_shown options.all; count = count; client = no_side options.any_seq Client listing.client client; adapter = no_side options.any_seq Adapter listing.adapter adapter }
+
 -- ---- none breaks a rule
 
 module _ (any_seq : AnySeq) (explained bodies : Bool) where

@@ -64,12 +64,15 @@ impl Listing {
             bodies: options.bodies,
             whole: options.explained,
         };
+        let checker = ExplainedChecker::open(alloc, mode);
+        let text = Vec::new(alloc);
+        let none = SideNumbers::new();
         Listing {
-            checker: ExplainedChecker::open(alloc, mode),
-            text: Vec::new(alloc),
+            checker,
+            text,
             count: 0,
-            client: SideNumbers::new(),
-            adapter: SideNumbers::new(),
+            client: none,
+            adapter: none,
         }
     }
 

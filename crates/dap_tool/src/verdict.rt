@@ -134,7 +134,8 @@ fn push_unanswered(
         return Ok(());
     }
     let requests = checker.unanswered(alloc)?;
-    push_each_open(text, options.explained, &requests)
+    push_each_open(text, options.explained, &requests)?;
+    Ok(())
 }
 
 // ---- of a transcript
