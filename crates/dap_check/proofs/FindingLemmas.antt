@@ -1,9 +1,7 @@
 -- All lines that break a rule: one line more, and the first of them.
-use Rattle.std.proofs.Common.{◌≡◌, List, [], ◌∷◌, ◌++◌, Bool, true, Option, Some, None, refl, sym, ap, ◌∙◌, subst}
+use Rattle.std.proofs.Common.{◌≡◌, List, [], ◌∷◌, ◌++◌, Option, Some, None, refl, sym, ap, ◌∙◌, subst}
 use Rattle.std.proofs.lemmas.List.{append_assoc, append-nil}
-use Rattle.std.specs.Prelude.{false, is_some, if◌then◌else◌}
-use Rattle.dap_shape.specs.Faults.{fault_in}
-use Rattle.dap_check.specs.Findings.{finding_at, findings_after, findings, first_of, AreSound}
+use Rattle.dap_check.specs.Findings.{finding_at, findings_after, findings, first_of}
 use Rattle.dap_check.specs.Legal.{least_broken, IsLegal, IsVerdict}
 use Rattle.dap_check.specs.Checking.{IsBroken, IsFound}
 use Rattle.dap_check.specs.PrivateJudged.{rule_in}
@@ -64,16 +62,3 @@ found_more mode lines line found is old new was more =
     ∙ ap (λ n. findings mode.any_seq lines ++ finding_at n (rule_in found.broken)) is.numbered
     ∙ ap (λ o. findings mode.any_seq lines ++ finding_at line.number o) (rule_found mode lines line found.broken is.broken)
     ∙ sym (findings_push mode.any_seq lines line)
-
--- ---- messages without a fault
-
--- it was seen where bodies count, and nothing is broken
-pub found_sound : (mode : CheckMode) (earlier : List Line) (line : Line) (broken : Option Broken) → IsBroken mode earlier line broken → (seen : Bool) → seen ≡ (if is_some broken then false else mode.bodies) → seen ≡ true → fault_in line.message.kind ≡ None
-found_sound mode earlier line None is seen e so = is.1 (sym e ∙ so)
-found_sound mode earlier line (Some broken) is seen e so = absurd (cc (e, so))
-
-pub sound_more : (lines : List Line) (sound : List Bool) (line : Line) (is_sound : Bool) → (is_sound ≡ true → fault_in line.message.kind ≡ None) → AreSound lines sound → AreSound (lines ++ line ∷ []) (sound ++ is_sound ∷ [])
-sound_more [] [] line is_sound faultless are = (faultless, tt)
-sound_more [] (other ∷ sound) line is_sound faultless are = absurd are
-sound_more (first ∷ lines) [] line is_sound faultless are = absurd are
-sound_more (first ∷ lines) (other ∷ sound) line is_sound faultless are = (are.0, sound_more lines sound line is_sound faultless are.1)

@@ -1,10 +1,9 @@
 -- All lines that break a rule, and all requests that nothing has answered: Specification, "Request" and "Response". That a line
 -- is judged by all lines before it, those that break a rule too, is this profile's choice.
-use Rattle.std.specs.Prelude.{◌≡◌, ℕ, ◌==◌, List, [], ◌∷◌, ◌++◌, Bool, true, ◌&&◌, if◌then◌else◌, Option, Some, None}
+use Rattle.std.specs.Prelude.{◌≡◌, ℕ, ◌==◌, List, [], ◌∷◌, ◌++◌, Bool, ◌&&◌, if◌then◌else◌, Option, Some, None}
 use Rattle.std.specs.List.{list_any}
 use Rattle.dap_envelope.specs.declared.message.Kind.{Kind}
 use Rattle.dap_envelope.specs.declared.message.Kind.TheVariants.{Request, Response, Event, Other}
-use Rattle.dap_shape.specs.Faults.{fault_in}
 use Rattle.dap_check.specs.Legal.{least_broken}
 use Rattle.dap_check.specs.Lines.{other_side, same_side, answers}
 use Rattle.dap_check.specs.declared.line.Line.{Line}
@@ -61,18 +60,8 @@ open_requests (line ∷ since) = (if is_answered line.side line.message.seq sinc
 abbrev pub is_open_as : Side → ℕ → OpenRequest → Bool
 is_open_as side seq request = same_side side request.side && (request.seq == seq)
 
--- ---- messages without a fault
-
--- of each line, in order, whether it was seen that its message has no fault; if not, it may have one or none
-abbrev pub AreSound : List Line → List Bool → Type 0
-AreSound [] [] = Unit {0}
-AreSound [] (is_sound ∷ sound) = ⊥
-AreSound (line ∷ lines) [] = ⊥
-AreSound (line ∷ lines) (is_sound ∷ sound) = (is_sound ≡ true → fault_in line.message.kind ≡ None) × AreSound lines sound
-
 -- ---- all that is found
 
 pub record IsReport (any_seq : AnySeq) (lines : List Line) (report : Report) : Type 0 where
   pub found : report.findings.items ≡ findings any_seq lines
   pub unanswered : report.unanswered.items ≡ open_requests lines
-  pub sound : AreSound lines report.sound.items

@@ -1,21 +1,20 @@
 //! Whether a transcript is legal, and all that is found in it.
-ghost use Rattle.std.specs.Prelude.{◌≡◌, ◌≢◌, ◌⊎◌, ◌+◌, ◌-◌, ◌^◌, ◌<◌, ◌∷◌, ◌++◌, [], List, ℕ, length, OnOk, IfOk, IfErr, IsErrAnd, MatchResult, is_some, false, if◌then◌else◌};
+ghost use Rattle.std.specs.Prelude.{◌≡◌, ◌≢◌, ◌⊎◌, ◌+◌, ◌-◌, ◌^◌, ◌<◌, ◌∷◌, ◌++◌, [], List, ℕ, length, OnOk, IfOk, IfErr, IsErrAnd, MatchResult};
 ghost use Rattle.std.specs.Str.Lines.{lines};
-ghost use Rattle.dap_check.specs.Checking.{taken_by, IsFound};
-ghost use Rattle.dap_check.specs.Findings.{finding_at, findings, first_of, AreSound, IsReport};
+ghost use Rattle.dap_check.specs.Checking.{taken_by};
+ghost use Rattle.dap_check.specs.Findings.{finding_at, findings, first_of, IsReport};
 ghost use Rattle.dap_check.specs.Legal.{IsVerdict};
 ghost use Rattle.dap_check.specs.PrivateJudged.{rule_in, IsProgress};
 ghost use Rattle.dap_check.specs.Rules.{of_both_if};
 ghost use Rattle.dap_check.specs.Transcript.{AreLines, Refuses, FirstRefused};
 ghost use Rattle.dap_check.specs.declared.checking.CheckFault.{CheckFault};
-ghost use Rattle.dap_check.specs.declared.found.CheckMode.{CheckMode};
 ghost use Rattle.dap_check.specs.declared.line.Line.{Line as TheLine};
 ghost use Rattle.dap_check.specs.declared.rule.AnySeq.{AnySeq};
 ghost use Rattle.dap_check.specs.declared.rule.Checked.{Checked};
 
 use crate::checker::Checker;
 use crate::cutting::split_line;
-use crate::found::{Broken, CheckMode, LineFound};
+use crate::found::{Broken, CheckMode};
 use crate::rule::{AnySeq, Checked, Finding, Report};
 use dap_envelope::BodyRefusal;
 use dap_envelope::laws::each_body_is_one;
@@ -60,77 +59,59 @@ fn push_broken(
     Ok(())
 }
 
-/// Whether it was seen that a message has no fault: bodies count, and nothing is broken.
-fn is_seen_sound(bodies: bool, broken: &Option<Broken>) -> bool
-    ensures { result ≡ (if is_some broken.now then false else bodies) }
-{
-    match broken {
-        None => bodies,
-        Some(_) => false,
-    }
-}
-
 /// How far checking has come.
 #[derive(Drop)]
 pub(crate) struct Progress {
     pub(crate) checker: Checker,
     /// The lines so far that break a rule, in order.
     pub(crate) findings: Vec<Finding>,
-    /// Of each line so far, whether it was seen that its message has no fault.
-    pub(crate) sound: Vec<bool>,
 }
 
 impl Progress {
-    fn new(alloc: Global, mode: CheckMode) -> Progress
-        ensures progress { IsProgress mode [] [] result }
+    fn new(alloc: Global, any_seq: AnySeq) -> Progress
+        ensures progress { IsProgress any_seq [] [] result }
         ensures none { taken_by result.checker ≡ 0 }
     {
+        let mode = CheckMode {
+            any_seq,
+            bodies: false,
+            whole: false,
+        };
         Progress {
             checker: Checker::open(alloc, mode),
             findings: Vec::new(alloc),
-            sound: Vec::new(alloc),
         }
     }
 
-    /// Keeps what was found of a line.
-    fn keep(&mut self, mode: CheckMode, found: &LineFound) -> Result<(), AllocError>
-        ensures found { OnOk result ((lines : List TheLine) (line : TheLine) → IsFound mode lines line found.now → self.old.findings.items ≡ findings mode.any_seq lines → self.new.findings.items ≡ findings mode.any_seq (lines ++ line ∷ [])) }
-        ensures sound { OnOk result ((lines : List TheLine) (line : TheLine) → IsFound mode lines line found.now → AreSound lines self.old.sound.items → AreSound (lines ++ line ∷ []) self.new.sound.items) }
-        ensures checker { self.new.checker ≡ self.old.checker }
-    {
-        push_broken(&mut self.findings, found.number, &found.broken)?;
-        let is_sound = is_seen_sound(mode.bodies, &found.broken);
-        self.sound.push(is_sound)?;
-        Ok(())
-    }
-
     /// Takes the text of the next line.
-    fn take(&mut self, alloc: Global, mode: CheckMode, text: &[u8]) -> Result<(), CheckFault>
+    fn take(&mut self, alloc: Global, text: &[u8]) -> Result<(), CheckFault>
         requires { taken_by self.old.checker < 2 ^ 64 - 1 }
-        ensures progress { OnOk result ((texts : List (List ℕ)) (lines : List TheLine) → IsProgress mode texts lines self.old → (more : List TheLine) × IsProgress mode (texts ++ text.now ∷ []) more self.new) }
+        ensures progress { OnOk result ((any_seq : AnySeq) (texts : List (List ℕ)) (lines : List TheLine) → IsProgress any_seq texts lines self.old → (more : List TheLine) × IsProgress any_seq (texts ++ text.now ∷ []) more self.new) }
         ensures one { OnOk result (taken_by self.new.checker ≡ taken_by self.old.checker + 1) }
         ensures refused { IfErr result (λ fault. Refuses (taken_by self.old.checker + 1) text.now fault × (0 < length text.now)) }
     {
         match self.checker.line(alloc, text)? {
             None => Ok(()),
-            Some(found) => match self.keep(mode, &found) {
-                Ok(()) => Ok(()),
-                Err(_) => Err(CheckFault::OutOfMemory),
-            },
+            Some(found) => {
+                match push_broken(&mut self.findings, found.number, &found.broken) {
+                    Ok(()) => Ok(()),
+                    Err(_) => Err(CheckFault::OutOfMemory),
+                }
+            }
         }
     }
 }
 
 /// All lines, in one pass.
-fn pass(alloc: Global, bytes: &[u8], mode: CheckMode) -> Result<Progress, CheckFault>
-    ensures progress { IfOk result (λ progress. (transcript : List TheLine) × IsProgress mode (lines bytes.now) transcript progress) }
+fn pass(alloc: Global, bytes: &[u8], any_seq: AnySeq) -> Result<Progress, CheckFault>
+    ensures progress { IfOk result (λ progress. (transcript : List TheLine) × IsProgress any_seq (lines bytes.now) transcript progress) }
     ensures refused { IfErr result (FirstRefused (lines bytes.now)) }
 {
-    let mut progress = Progress::new(alloc, mode);
+    let mut progress = Progress::new(alloc, any_seq);
     let mut rest = bytes;
     while !rest.is_empty() {
         let (text, later) = split_line(rest);
-        progress.take(alloc, mode, text)?;
+        progress.take(alloc, text)?;
         rest = later;
     }
     Ok(progress)
@@ -138,18 +119,13 @@ fn pass(alloc: Global, bytes: &[u8], mode: CheckMode) -> Result<Progress, CheckF
 
 /// What was found, with the requests that nothing has answered.
 fn report(alloc: Global, progress: Progress) -> Result<Report, CheckFault>
-    ensures { (mode : CheckMode) (texts : List (List ℕ)) (lines : List TheLine) → IsProgress mode texts lines progress → MatchResult result (IsReport mode.any_seq lines) (λ fault. fault ≡ CheckFault.OutOfMemory) }
+    ensures { (any_seq : AnySeq) (texts : List (List ℕ)) (lines : List TheLine) → IsProgress any_seq texts lines progress → MatchResult result (IsReport any_seq lines) (λ fault. fault ≡ CheckFault.OutOfMemory) }
 {
-    let Progress {
-        checker,
-        findings,
-        sound,
-    } = progress;
+    let Progress { checker, findings } = progress;
     match checker.unanswered(alloc) {
         Ok(unanswered) => Ok(Report {
             findings,
             unanswered,
-            sound,
         }),
         Err(_) => Err(CheckFault::OutOfMemory),
     }
@@ -192,12 +168,7 @@ pub fn check_by_side(alloc: Global, bytes: &[u8], any_seq: AnySeq) -> Result<Che
 {
     // A law for the proof: no line is both a message and refused.
     each_body_is_one();
-    let mode = CheckMode {
-        any_seq,
-        bodies: false,
-        whole: false,
-    };
-    match pass(alloc, bytes, mode) {
+    match pass(alloc, bytes, any_seq) {
         Ok(progress) => Ok(first(&progress.findings)),
         Err(fault) => Err(fault),
     }
@@ -205,14 +176,8 @@ pub fn check_by_side(alloc: Global, bytes: &[u8], any_seq: AnySeq) -> Result<Che
 
 /// Each line that breaks a rule, with the least rule that it breaks, and each request that nothing has answered. A line is
 /// judged by all lines before it, also by those that break a rule. The first finding is that of [`check_by_side`]; a line that is
-/// none, or no message, is reported before any. `bodies` asks to look out for faults of messages on the way
-/// ([`message_fault`](dap_shape::message_fault)), so that only few messages are to be looked at again.
-pub fn check_all(
-    alloc: Global,
-    bytes: &[u8],
-    any_seq: AnySeq,
-    bodies: bool,
-) -> Result<Report, CheckFault>
+/// none, or no message, is reported before any. For rule 8 too see [`Checker`].
+pub fn check_all(alloc: Global, bytes: &[u8], any_seq: AnySeq) -> Result<Report, CheckFault>
     ensures checked { IfOk result (λ report. (transcript : List TheLine) × AreLines 1 (lines bytes.now) transcript × IsReport any_seq transcript report) }
     ensures refused { IfErr result (λ fault. (fault ≡ CheckFault.OutOfMemory) ⊎ FirstRefused (lines bytes.now) fault) }
 
@@ -222,12 +187,7 @@ pub fn check_all(
 {
     // A law for the proof: no line is both a message and refused.
     each_body_is_one();
-    let mode = CheckMode {
-        any_seq,
-        bodies,
-        whole: false,
-    };
-    match pass(alloc, bytes, mode) {
+    match pass(alloc, bytes, any_seq) {
         Ok(progress) => report(alloc, progress),
         Err(fault) => Err(fault),
     }

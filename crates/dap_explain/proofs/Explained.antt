@@ -1,22 +1,23 @@
 -- What is explained is the line of that number after the lines before it.
 use Rattle.std.proofs.Common.{◌≡◌, ◌≢◌, ◌⊎◌, ℕ, ◌+◌, ◌<◌, ◌≤◌, ◌==◌, List, [], ◌∷◌, ◌++◌, length, Bool, true, false, Option, None, Result, Ok, Err, refl, sym, ap, ◌∙◌, subst, inl, inr, zero, suc, arith}
-use Rattle.std.specs.Prelude.{◌||◌, IfErr, IsErrAnd, take, drop}
+use Rattle.std.specs.Prelude.{◌||◌, IfOk, IfErr, IsErrAnd, take, drop}
 use Rattle.std.specs.List.{list_any}
 use Rattle.std.specs.Str.Lines.{lines}
 use Rattle.std.proofs.lemmas.Bool.Decides.{nat_tests}
 use Rattle.std.proofs.lemmas.List.{length-append, append_assoc, take-append-drop, take_all, take_at}
-use Rattle.dap_explain.specs.KeptNotes.{AreNotes}
-use Rattle.dap_explain.specs.PrivateWalks.{IsWalk, IsAt, IsExplained}
+use Rattle.dap_explain.specs.Explained.{noted_by, HasNoted}
+use Rattle.dap_explain.specs.PrivateWalks.{explaining, IsWalk, IsAt, IsExplained}
 use Rattle.dap_explain.specs.Reasons.{reason_of}
 use Rattle.dap_check.specs.ReadingLaws.{TextsHaveOneTranscript, TextsHaveOneFault, TranscriptsGrow}
 use Rattle.dap_check.specs.Transcript.{IsLine, AreLines, Refuses, FirstRefused, IsRefusedIn}
 use Rattle.dap_check.specs.declared.checking.CheckFault.{CheckFault}
 use Rattle.dap_check.specs.declared.checking.CheckFault.TheVariants.{OutOfMemory}
+use Rattle.dap_check.specs.declared.found.CheckMode.{CheckMode}
 use Rattle.dap_check.specs.declared.line.Line.{Line}
 use Rattle.dap_check.specs.declared.rule.Rule.{Rule}
-use Rattle.dap_explain.specs.declared.notes.Notes.{Notes}
 use Rattle.dap_explain.specs.declared.reason.Reason.{Reason}
-use Rattle.dap_explain.proofs.Walked.{all_read, more, is_empty, next_refused}
+use Rattle.dap_explain.specs.declared.reasoning.ExplainedChecker.{ExplainedChecker}
+use Rattle.dap_explain.proofs.Walked.{count, all_read, more, is_empty, next_refused}
 
 -- ---- lines and their numbers
 
@@ -107,50 +108,53 @@ none_in number [] [] are few = refl
 none_in number [] (line ∷ read) are few = absurd are
 none_in number (text ∷ texts) read are few = elim few [ inl none ↦ absurd (omega (arith, none)) | inr less ↦ none_below 1 number (text ∷ texts) read are less ]
 
-module _ (one : TextsHaveOneTranscript) (faults : TextsHaveOneFault) (grows : TranscriptsGrow) (bytes rest : List ℕ) (at : ℕ) (notes : Notes) (so : IsWalk bytes rest at notes) (number : ℕ) (rule : Rule) where
+module _ (one : TextsHaveOneTranscript) (faults : TextsHaveOneFault) (grows : TranscriptsGrow) (bytes rest : List ℕ) (checker : ExplainedChecker) (so : IsWalk bytes rest checker) (number : ℕ) (rule : Rule) where
+  counted : noted_by checker ≡ length so.before
+  counted = count bytes rest checker so
+
   -- the lines end before the number
   ended_so : length rest ≡ 0 → length so.before ≤ number → (length so.before ≡ 0) ⊎ (1 + length so.before ≤ number) → IsExplained bytes number rule (Ok None)
   ended_so none few less =
-      let all : take number (lines bytes) ≡ so.before = ap (take number) (all_read bytes rest at notes so none) ∙ take_all number so.before few in
-      none_so one faults bytes number rule so.read (subst (λ texts. AreLines 1 texts so.read) (sym all) so.are) (none_in number so.before so.read so.are less)
+      let all : take number (lines bytes) ≡ so.before = ap (take number) (all_read bytes rest checker so none) ∙ take_all number so.before few in
+      none_so one faults bytes number rule so.read (subst (λ texts. AreLines 1 texts so.read) (sym all) so.noted.taken.are) (none_in number so.before so.read so.noted.taken.are less)
 
-  pub empty_so : IsAt number rest at → length rest ≡ 0 → IsExplained bytes number rule (Ok None)
+  pub empty_so : IsAt number rest checker → length rest ≡ 0 → IsExplained bytes number rule (Ok None)
   empty_so is none = elim is.ahead [
-    | inl first ↦ ended_so none (omega (arith, so.count, first)) (inl (omega (arith, so.count, first)))
-    | inr more ↦ ended_so none (omega (arith, so.count, more)) (inr (omega (arith, so.count, more)))
+    | inl first ↦ ended_so none (omega (arith, counted, first)) (inl (omega (arith, counted, first)))
+    | inr more ↦ ended_so none (omega (arith, counted, more)) (inr (omega (arith, counted, more)))
   ]
 
   nothing_so : number ≡ 0 → IsExplained bytes number rule (Ok None)
   nothing_so none = none_so one faults bytes number rule [] (subst (λ n. AreLines 1 (take n (lines bytes)) []) (sym none) tt) refl
 
-  pub past_so : IsAt number rest at → at ≢ number → IsExplained bytes number rule (Ok None)
+  pub past_so : IsAt number rest checker → noted_by checker + 1 ≢ number → IsExplained bytes number rule (Ok None)
   past_so is other = elim is.all [
     | inr none ↦ empty_so is none
     | inl below ↦ elim is.ahead [ inl first ↦ nothing_so (omega (arith, below, first, other)) | inr more ↦ absurd (omega (arith, below, more, other)) ]
   ]
 
-  module _ (text later_text : List ℕ) (first_line : lines rest ≡ text ∷ lines later_text) (reached : at ≡ number) where
+  module _ (text later_text : List ℕ) (first_line : lines rest ≡ text ∷ lines later_text) (reached : noted_by checker + 1 ≡ number) where
     -- the lines up to the number
     just : take number (lines bytes) ≡ so.before ++ text ∷ []
     just =
-        let count : length (so.before ++ text ∷ []) ≡ number = omega (arith, so.count, reached, length-append so.before (text ∷ [])) in
-        ap (take number) (more bytes rest at notes so text later_text first_line) ∙ take_at (so.before ++ text ∷ []) (lines later_text) number count
+        let count : length (so.before ++ text ∷ []) ≡ number = omega (arith, counted, reached, length-append so.before (text ∷ [])) in
+        ap (take number) (more bytes rest checker so text later_text first_line) ∙ take_at (so.before ++ text ∷ []) (lines later_text) number count
 
     pub no_text_so : length text ≡ 0 → IsExplained bytes number rule (Ok None)
     no_text_so none =
-        let are : AreLines 1 (so.before ++ text ∷ []) so.read = subst (λ t. AreLines 1 (so.before ++ t ∷ []) so.read) (sym (is_empty text none)) (grows.skipped 1 so.before so.read so.are) in
-        none_so one faults bytes number rule so.read (subst (λ texts. AreLines 1 texts so.read) (sym just) are) (none_below 1 number so.before so.read so.are (omega (arith, so.count, reached)))
+        let are : AreLines 1 (so.before ++ text ∷ []) so.read = subst (λ t. AreLines 1 (so.before ++ t ∷ []) so.read) (sym (is_empty text none)) (grows.skipped 1 so.before so.read so.noted.taken.are) in
+        none_so one faults bytes number rule so.read (subst (λ texts. AreLines 1 texts so.read) (sym just) are) (none_below 1 number so.before so.read so.noted.taken.are (omega (arith, counted, reached)))
 
-    pub told_here : 0 < length text → (found : Line) → IsLine number text found → (told : Option Reason) → ((earlier : List Line) → AreNotes notes earlier → told ≡ reason_of rule earlier found) → IsExplained bytes number rule (Ok told)
-    told_here some found is told tells =
-        let e : number ≡ 1 + length so.before = omega (arith, so.count, reached) in
-        let are = grows.more 1 so.before so.read text found so.are some (subst (λ n. IsLine n text found) e is) in
-        told_so one faults bytes number rule so.read found (subst (λ texts. AreLines 1 texts (so.read ++ found ∷ [])) (sym just) are) is.numbered told (tells so.read so.so_far)
+    abbrev Tells : Option Reason → Type 0
+    Tells told = (mode : CheckMode) (texts : List (List ℕ)) (read : List Line) → mode.whole ≡ true → HasNoted mode texts read checker → (line : Line) × IsLine (noted_by checker + 1) text line × (told ≡ reason_of rule read line)
 
-    pub unread_so : 0 < length text → (result : Result (Option Reason) CheckFault) (fault : CheckFault) → Refuses number text fault → IsErrAnd result (λ told. told ≡ fault) → IsExplained bytes number rule result
-    unread_so some result fault says is =
-        refused_so one faults bytes number rule result fault (told_error result fault is)
-        (next_refused bytes rest at notes so text later_text first_line number fault (omega (arith, reached)) some (subst (λ n. Refuses n text fault) (sym reached) says))
+    pub reason_so : 0 < length text → (result : Result (Option Reason) CheckFault) → IfOk result Tells → IfErr result (Refuses (noted_by checker + 1) text) → IsExplained bytes number rule result
+    reason_so some (Ok told) tells says =
+        let e : noted_by checker + 1 ≡ 1 + length so.before = omega (arith, counted) in
+        let is = tells explaining so.before so.read refl so.noted in
+        let are = grows.more 1 so.before so.read text is.0 so.noted.taken.are some (subst (λ n. IsLine n text is.0) e is.1) in
+        told_so one faults bytes number rule so.read is.0 (subst (λ texts. AreLines 1 texts (so.read ++ is.0 ∷ [])) (sym just) are) (is.1.numbered ∙ reached) told is.2
+    reason_so some (Err fault) tells says = refused_so one faults bytes number rule (Err fault) fault refl (next_refused bytes rest checker so text later_text first_line number fault (omega (arith, reached)) some says)
 
 -- ---- what that says of a whole transcript
 

@@ -1,20 +1,24 @@
--- How far the lines of a text are read, and the line of a number.
-use Rattle.std.proofs.Common.{◌≡◌, ℕ, suc, ◌+◌, ◌-◌, ◌<◌, ◌≤◌, List, [], ◌∷◌, ◌++◌, length, refl, sym, ap, ◌∙◌, subst, arith}
+-- How far the lines of a text are taken, and the line of a number.
+use Rattle.std.proofs.Common.{◌≡◌, ℕ, suc, ◌+◌, ◌-◌, ◌<◌, ◌≤◌, List, [], ◌∷◌, ◌++◌, length, Option, Some, None, refl, sym, ap, ◌∙◌, subst, arith}
 use Rattle.std.specs.Prelude.{take}
 use Rattle.std.specs.Str.Lines.{lines}
 use Rattle.std.proofs.Math.Seq.{take-append-add}
-use Rattle.std.proofs.lemmas.List.{length-append, append_assoc, append-nil}
-use Rattle.dap_explain.specs.KeptNotes.{AreNotes}
-use Rattle.dap_explain.specs.KeptTrails.{AreBelow}
-use Rattle.dap_explain.specs.PrivateWalks.{IsWalk}
-use Rattle.dap_check.specs.ReadingLaws.{TranscriptsGrow}
-use Rattle.dap_check.specs.Transcript.{IsLine, AreLines, FirstRefused, Refuses}
+use Rattle.std.proofs.lemmas.List.{append_assoc, append-nil}
+use Rattle.dap_explain.specs.Explained.{noted_by, HasNoted, TakesAndTells}
+use Rattle.dap_explain.specs.PrivateWalks.{explaining, IsWalk}
+use Rattle.dap_check.specs.Transcript.{FirstRefused, Refuses}
 use Rattle.dap_check.specs.declared.checking.CheckFault.{CheckFault}
 use Rattle.dap_check.specs.declared.line.Line.{Line}
-use Rattle.dap_explain.specs.declared.notes.Notes.{Notes}
+use Rattle.dap_explain.specs.declared.reasoning.ExplainedChecker.{ExplainedChecker}
+use Rattle.dap_explain.specs.declared.told.LineTold.{LineTold}
 
-pub none_read : (bytes : List ℕ) (notes : Notes) → AreNotes notes [] → AreBelow 1 notes.trails → IsWalk bytes bytes 1 notes
-none_read bytes notes is below = record { before = []; split = refl; count = refl; few = omega arith; read = []; are = tt; so_far = is; below = below }
+pub none_read : (bytes : List ℕ) (checker : ExplainedChecker) → HasNoted explaining [] [] checker → IsWalk bytes bytes checker
+none_read bytes checker is = let none = is.taken.count in record { before = []; split = refl; few = omega (arith, none); read = []; noted = is }
+
+-- one text more
+pub noted_more : (texts : List (List ℕ)) (read : List Line) (text : List ℕ) (told : Option LineTold) (new : ExplainedChecker) → TakesAndTells explaining texts read text told new → (more : List Line) × HasNoted explaining (texts ++ text ∷ []) more new
+noted_more texts read text None new takes = (read, takes.1)
+noted_more texts read text (Some told) new takes = (read ++ takes.1.0 ∷ [], takes.1.3)
 
 no_lines : (rest : List ℕ) → length rest ≡ 0 → lines rest ≡ []
 no_lines [] h = refl
@@ -31,7 +35,10 @@ take_behind before x after n less =
     let e : n ≡ length before + suc k = omega (arith, less) in
     (take k after, ap (λ m. take m (before ++ x ∷ after)) e ∙ take-append-add before (x ∷ after) (suc k))
 
-module _ (bytes rest : List ℕ) (at : ℕ) (notes : Notes) (so : IsWalk bytes rest at notes) where
+module _ (bytes rest : List ℕ) (checker : ExplainedChecker) (so : IsWalk bytes rest checker) where
+  pub count : noted_by checker ≡ length so.before
+  count = so.noted.taken.count
+
   pub all_read : length rest ≡ 0 → lines bytes ≡ so.before
   all_read h = so.split ∙ ap (λ z. so.before ++ z) (no_lines rest h) ∙ append-nil so.before
 
@@ -43,37 +50,13 @@ module _ (bytes rest : List ℕ) (at : ℕ) (notes : Notes) (so : IsWalk bytes r
     more = here ∙ sym (append_assoc so.before (text ∷ []) (lines later))
 
     -- the lines up to one that is not before it
-    pub up_to : (number : ℕ) → at ≤ number → (after : List (List ℕ)) × (take number (lines bytes) ≡ so.before ++ text ∷ after)
-    up_to number ahead = let more = take_behind so.before text (lines later) number (omega (arith, so.count)) in (more.0, ap (take number) here ∙ more.1)
+    pub up_to : (number : ℕ) → noted_by checker < number → (after : List (List ℕ)) × (take number (lines bytes) ≡ so.before ++ text ∷ after)
+    up_to number ahead = let more = take_behind so.before text (lines later) number (omega (arith, count, ahead)) in (more.0, ap (take number) here ∙ more.1)
 
-    pub next_refused : (number : ℕ) (fault : CheckFault) → at ≤ number → 0 < length text → Refuses at text fault → FirstRefused (take number (lines bytes)) fault
+    pub next_refused : (number : ℕ) (fault : CheckFault) → noted_by checker < number → 0 < length text → Refuses (noted_by checker + 1) text fault → FirstRefused (take number (lines bytes)) fault
     next_refused number fault ahead some says =
         let more = up_to number ahead in
-        record { before = so.before; text = text; after = more.0; split = more.1; lines = so.read; accepted = so.are; has_bytes = some; refuses = subst (λ n. Refuses n text fault) so.count says }
+        record { before = so.before; text = text; after = more.0; split = more.1; lines = so.read; accepted = so.noted.taken.are; has_bytes = some; refuses = subst (λ n. Refuses (n + 1) text fault) count says }
 
-    module _ (grows : TranscriptsGrow) (shorter : length later < length rest) where
-      pub read_skipped : length text ≡ 0 → AreBelow (at + 1) notes.trails → IsWalk bytes later (at + 1) notes
-      read_skipped none below = record {
-        before = so.before ++ text ∷ [];
-        split = more;
-        count = omega (arith, so.count, length-append so.before (text ∷ []));
-        few = omega (arith, so.few);
-        read = so.read;
-        are = subst (λ t. AreLines 1 (so.before ++ t ∷ []) so.read) (sym (is_empty text none)) (grows.skipped 1 so.before so.read so.are);
-        so_far = so.so_far;
-        below = below;
-      }
-
-      pub read_more : (line : Line) (notes' : Notes) → 0 < length text → IsLine at text line → ((earlier : List Line) → AreNotes notes earlier → AreNotes notes' (earlier ++ line ∷ [])) → AreBelow (at + 1) notes'.trails → IsWalk bytes later (at + 1) notes'
-      read_more line notes' some is tells below =
-          let e : at ≡ 1 + length so.before = omega (arith, so.count) in
-          record {
-            before = so.before ++ text ∷ [];
-            split = more;
-            count = omega (arith, so.count, length-append so.before (text ∷ []));
-            few = omega (arith, so.few);
-            read = so.read ++ line ∷ [];
-            are = grows.more 1 so.before so.read text line so.are some (subst (λ n. IsLine n text line) e is);
-            so_far = tells so.read so.so_far;
-            below = below;
-          }
+    pub read_more : length later < length rest → (new : ExplainedChecker) (read : List Line) → HasNoted explaining (so.before ++ text ∷ []) read new → noted_by new ≡ noted_by checker + 1 → IsWalk bytes later new
+    read_more shorter new read noted one = record { before = so.before ++ text ∷ []; split = more; few = omega (arith, so.few, one, shorter); read = read; noted = noted }

@@ -1,33 +1,35 @@
--- How far the lines of a text were read. Only private clauses and proofs cite this file.
-use Rattle.std.specs.Prelude.{◌≡◌, ◌≢◌, ◌⊎◌, ℕ, ◌+◌, ◌≤◌, ◌==◌, List, [], ◌∷◌, ◌++◌, length, take, false, Option, None, Result, Ok, Err, IfErr}
+-- How far the lines of a text were taken. Only private clauses and proofs cite this file.
+use Rattle.std.specs.Prelude.{◌≡◌, ◌≢◌, ◌⊎◌, ℕ, ◌+◌, ◌≤◌, ◌==◌, List, [], ◌∷◌, ◌++◌, length, take, true, false, Option, None, Result, Ok, Err, IfErr}
 use Rattle.std.specs.List.{list_any}
 use Rattle.std.specs.Str.Lines.{lines}
-use Rattle.dap_explain.specs.KeptNotes.{AreNotes}
-use Rattle.dap_explain.specs.KeptTrails.{AreBelow}
+use Rattle.dap_explain.specs.Explained.{noted_by, HasNoted}
 use Rattle.dap_explain.specs.Reasons.{reason_of}
 use Rattle.dap_check.specs.Transcript.{AreLines, FirstRefused}
 use Rattle.dap_check.specs.declared.checking.CheckFault.{CheckFault}
 use Rattle.dap_check.specs.declared.checking.CheckFault.TheVariants.{OutOfMemory}
+use Rattle.dap_check.specs.declared.found.CheckMode.{CheckMode}
 use Rattle.dap_check.specs.declared.line.Line.{Line}
+use Rattle.dap_check.specs.declared.rule.AnySeq.TheVariants.{OfNone}
 use Rattle.dap_check.specs.declared.rule.Rule.{Rule}
-use Rattle.dap_explain.specs.declared.notes.Notes.{Notes}
 use Rattle.dap_explain.specs.declared.reason.Reason.{Reason}
+use Rattle.dap_explain.specs.declared.reasoning.ExplainedChecker.{ExplainedChecker}
 
--- the texts before rest are lines, and these are the notes of them; the next has this number
-pub record IsWalk (bytes rest : List ℕ) (at : ℕ) (notes : Notes) : Type 0 where
+-- reasons are asked for
+abbrev pub explaining : CheckMode
+explaining = record { any_seq = OfNone; bodies = false; whole = true }
+
+-- the texts before the rest were taken
+pub record IsWalk (bytes rest : List ℕ) (checker : ExplainedChecker) : Type 0 where
   pub before : List (List ℕ)
   pub split : lines bytes ≡ before ++ lines rest
-  pub count : at ≡ length before + 1
-  pub few : at + length rest ≤ length bytes + 1
+  pub few : noted_by checker + length rest ≤ length bytes
   pub read : List Line
-  pub are : AreLines 1 before read
-  pub so_far : AreNotes notes read
-  pub below : AreBelow at notes.trails
+  pub noted : HasNoted explaining before read checker
 
--- the lines before this number were read, and no more than these
-pub record IsAt (number : ℕ) (rest : List ℕ) (at : ℕ) : Type 0 where
-  pub ahead : (at ≡ 1) ⊎ (at ≤ number)
-  pub all : (number ≤ at) ⊎ (length rest ≡ 0)
+-- the lines before this number were taken, and no more than these
+pub record IsAt (number : ℕ) (rest : List ℕ) (checker : ExplainedChecker) : Type 0 where
+  pub ahead : (noted_by checker ≡ 0) ⊎ (noted_by checker + 1 ≤ number)
+  pub all : (number ≤ noted_by checker + 1) ⊎ (length rest ≡ 0)
 
 -- what is answered of the line of a number, by the texts up to it
 pub record IsExplained (bytes : List ℕ) (number : ℕ) (rule : Rule) (result : Result (Option Reason) CheckFault) : Type 0 where

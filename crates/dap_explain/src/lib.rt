@@ -1,7 +1,7 @@
 //! Why a line of a transcript breaks a rule, and the sentence that says so.
 //!
-//! An [`Explainer`] goes forward with the lines of a transcript, and tells of findings of `dap_check` against which earlier
-//! lines they stand. What it keeps is the last line that a reason may stand against, of each side and number, each flag and
+//! An [`ExplainedChecker`] is a `Checker` of `dap_check` that tells of each finding against which earlier line it stands.
+//! What it keeps is the last line that a reason may stand against, of each side and number, each flag and
 //! each reference, so that a reason is a lookup. This crate knows lines and rules by the public contracts of `dap_check`; it
 //! must not know what the checker keeps of the lines.
 #![tactic(auto)]
@@ -23,4 +23,4 @@ pub use reason::{Reason, ReferenceKind};
 pub use reasoning::ExplainedChecker;
 pub use sentences::sentence;
 pub use told::LineTold;
-pub use walking::{Explainer, explain};
+pub use walking::explain;

@@ -4,8 +4,9 @@ ghost use Rattle.dap_check.specs.Checking.{taken_by};
 ghost use Rattle.dap_explain.specs.KeptTrails.{AreBelow};
 
 use crate::notes::Notes;
+use crate::reason::Reason;
 use crate::told::LineTold;
-use dap_check::{CheckFault, CheckMode, Checker, OpenRequest};
+use dap_check::{CheckFault, CheckMode, Checker, OpenRequest, Rule, read_line};
 use std::alloc::{AllocError, Global};
 
 /// A [`Checker`] that says why: it keeps of each line what a reason at a later one may stand against, so that a reason is a
@@ -19,13 +20,14 @@ pub struct ExplainedChecker {
 }
 
 impl ExplainedChecker {
-    ghost use Rattle.std.specs.Prelude.{◌≡◌, ◌≢◌, ◌-◌, ◌^◌, ◌<◌, [], List, ℕ, length, OnOk, IfOk, IfErr, IfSome};
+    ghost use Rattle.std.specs.Prelude.{◌≡◌, ◌≢◌, ◌-◌, ◌^◌, ◌<◌, [], List, ℕ, length, OnOk, IfOk, IfErr, IfSome, true};
     ghost use Rattle.dap_check.specs.Findings.{open_requests};
-    ghost use Rattle.dap_check.specs.Transcript.{Refuses};
+    ghost use Rattle.dap_check.specs.Transcript.{IsLine, Refuses};
     ghost use Rattle.dap_check.specs.declared.checking.CheckFault.{CheckFault};
     ghost use Rattle.dap_check.specs.declared.found.CheckMode.{CheckMode};
     ghost use Rattle.dap_check.specs.declared.line.Line.{Line as TheLine};
     ghost use Rattle.dap_explain.specs.Explained.{HasNoted, TakesAndTells, noted_by};
+    ghost use Rattle.dap_explain.specs.Reasons.{reason_of};
 
     /// Before the first line.
     pub fn open(alloc: Global, mode: CheckMode) -> ExplainedChecker
@@ -74,6 +76,25 @@ impl ExplainedChecker {
                 }
             }
         }
+    }
+
+    /// Why the line of a text breaks a rule, where it is the next one and reasons are asked for. It is not taken.
+    ///
+    /// # Errors
+    /// The text is no line, or memory is refused.
+    pub(crate) fn reason(
+        &self,
+        alloc: Global,
+        text: &[u8],
+        rule: Rule,
+    ) -> Result<Option<Reason>, CheckFault>
+        requires { noted_by self.now < 2 ^ 64 - 1 }
+        ensures reason { IfOk result (λ reason. (mode : CheckMode) (texts : List (List ℕ)) (lines : List TheLine) → mode.whole ≡ true → HasNoted mode texts lines self.now → (line : TheLine) × IsLine (noted_by self.now + 1) text.now line × (reason ≡ reason_of rule lines line)) }
+        ensures refused { IfErr result (Refuses (noted_by self.now + 1) text.now) }
+    {
+        let number = self.checker.taken() + 1;
+        let line = read_line(alloc, number, text)?;
+        Ok(self.notes.explain(rule, &line))
     }
 
     /// The requests of the lines taken that nothing has answered, in the order of their lines.

@@ -1,9 +1,8 @@
 mod FaultExamples
 mod FileExamples
 pub mod WholeFiles
-pub mod VerdictTexts
 pub mod ListedTexts
-pub mod NumberLemmas
+pub mod Walked
 mod HintExamples
 mod CommandExamples
 pub mod PrintedInOrder

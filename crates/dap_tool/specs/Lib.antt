@@ -5,5 +5,4 @@ pub mod Hints
 pub mod Commands
 pub mod Verdicts
 pub mod PrivateListed
-pub mod PrivateNumbers
 pub mod PrintedLaws

@@ -6,11 +6,12 @@
 //! on `list`, `show`, `unwrap`, `wrap`, `check`, `drive`, `drive_and_check` and the laws of both ends together.
 #![tactic(auto)]
 
-mod bodies;
 mod commands;
 mod explaining;
 mod fault;
 mod files;
+mod finding;
+mod listing;
 mod numbering;
 mod printed;
 mod reads;

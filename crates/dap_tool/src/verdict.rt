@@ -1,24 +1,23 @@
 //! What a program prints of a transcript that it checks.
 
-ghost use Rattle.std.specs.Prelude.{◌≡◌, ◌≢◌, ◌⊎◌, ◌∷◌, ◌++◌, [], List, if◌then◌else◌, length, take, flat_map, OnOk, IfOk, IfErr, IsErrAnd, MatchResult, string_bytes, true, false};
+ghost use Rattle.std.specs.Prelude.{◌≡◌, ◌≢◌, ◌⊎◌, ◌&&◌, ◌++◌, [], List, ℕ, if◌then◌else◌, nat_le, flat_map, OnOk, IfOk, IfErr, IsErrAnd, MatchResult, string_bytes};
 ghost use Rattle.std.specs.Str.Lines.{lines};
-ghost use Rattle.dap_check.specs.Findings.{findings, IsReport};
+ghost use Rattle.dap_check.specs.Findings.{open_requests};
 ghost use Rattle.dap_check.specs.Transcript.{AreLines, FirstRefused};
 ghost use Rattle.dap_check.specs.declared.checking.CheckFault.{CheckFault};
 ghost use Rattle.dap_check.specs.declared.line.Line.{Line};
-ghost use Rattle.dap_check.specs.declared.rule.AnySeq.{AnySeq};
-ghost use Rattle.dap_check.specs.declared.rule.Finding.{Finding as TheFinding};
-ghost use Rattle.dap_explain.specs.Reasons.{reason_of};
-ghost use Rattle.dap_explain.specs.Sentences.{joined_text};
-ghost use Rattle.dap_tool.specs.Hints.{hint_if};
-ghost use Rattle.dap_tool.specs.Verdicts.{text_of_finding, text_of_checked, text_of_reason, text_of_why, text_at, texts_of, count_text, closing_text, text_of_request, text_of_open, open_text, printed_text, text_of_verdict, IsVerdictText};
+ghost use Rattle.dap_explain.specs.Explained.{HasNoted};
+ghost use Rattle.dap_tool.specs.Hints.{hint_text};
+ghost use Rattle.dap_tool.specs.PrivateListed.{mode_of, IsListed};
+ghost use Rattle.dap_tool.specs.Verdicts.{text_of_checked, count_text, closing_text, text_of_request, text_of_open, open_text, IsVerdictText};
 
-use crate::bodies::list_lines;
 use crate::commands::command_words;
-use crate::numbering::push_hint;
-use dap_check::laws::findings_are_broken_rules;
-use dap_check::{AnySeq, CheckFault, Checked, Finding, OpenRequest, Report, Rule, check_all};
-use dap_explain::{Explainer, Reason, sentence};
+use crate::finding::rule_text;
+use crate::listing::{Listing, list_lines};
+use crate::numbering::{SideNumbers, words_of};
+use dap_check::laws::texts_are_read_in_one_way;
+use dap_check::{AnySeq, CheckFault, Checked, OpenRequest};
+use dap_explain::ExplainedChecker;
 use dap_stream::{push_number, push_shown};
 use std::alloc::{AllocError, Global};
 
@@ -45,94 +44,7 @@ pub struct VerdictText {
     pub is_legal: bool,
 }
 
-// ---- lines that break a rule
-
-fn finding_text(alloc: Global, line: u64, rule: Rule) -> Result<String, AllocError>
-    ensures { IfOk result (λ text. string_bytes text ≡ text_of_finding line rule) }
-{
-    let number = u64::from(rule.number());
-    Ok(format!(in alloc; "line {line} rule {number}\n")?)
-}
-
-/// A verdict alone, as a line: `legal`, or the first line that breaks a rule, with that rule.
-pub fn verdict_line(alloc: Global, checked: Checked) -> Result<String, AllocError>
-    ensures { IfOk result (λ text. string_bytes text ≡ text_of_checked checked) }
-{
-    match checked {
-        Checked::Legal => format!(in alloc; "legal\n"),
-        Checked::Finding { line, rule } => finding_text(alloc, line, rule),
-    }
-}
-
-fn push_line(alloc: Global, text: &mut Vec<u8>, finding: Finding) -> Result<(), AllocError>
-    ensures { OnOk result (text.new.items ≡ text.old.items ++ text_of_finding finding.line finding.rule) }
-{
-    let line = finding_text(alloc, finding.line, finding.rule)?;
-    text.extend_from_slice(line.as_bytes())
-}
-
-fn push_reason(alloc: Global, text: &mut Vec<u8>, reason: Reason) -> Result<(), AllocError>
-    ensures { OnOk result (text.new.items ≡ text.old.items ++ text_of_reason reason) }
-{
-    let words = sentence(alloc, reason)?;
-    text.extend_from_slice(words.as_bytes())?;
-    text.extend_from_slice(b"\n")
-}
-
-/// Appends why a line breaks a rule.
-fn push_why(
-    alloc: Global,
-    text: &mut Vec<u8>,
-    explainer: &mut Explainer<'_>,
-    finding: Finding,
-) -> Result<(), CheckFault>
-    ensures text { (earlier : List Line) (line : Line) (later : List Line) → AreLines 1 (lines explainer.old) (earlier ++ line ∷ later) → line.number ≡ finding.line
-        → MatchResult result (λ done. text.new.items ≡ text.old.items ++ text_of_why (reason_of finding.rule earlier line)) (λ fault. fault ≡ CheckFault.OutOfMemory) }
-    ensures same { explainer.new ≡ explainer.old }
-{
-    match explainer.reason_at(alloc, finding.line, finding.rule) {
-        Ok(None) => Ok(()),
-        Ok(Some(reason)) => Ok(push_reason(alloc, text, reason)?),
-        Err(fault) => Err(fault),
-    }
-}
-
-/// Appends a line that breaks a rule, and the reason where it is asked for.
-pub(crate) fn push_finding(
-    alloc: Global,
-    text: &mut Vec<u8>,
-    explainer: &mut Explainer<'_>,
-    explained: bool,
-    finding: Finding,
-) -> Result<(), CheckFault>
-    ensures text { (earlier : List Line) (line : Line) (later : List Line) → AreLines 1 (lines explainer.old) (earlier ++ line ∷ later) → line.number ≡ finding.line
-        → MatchResult result (λ done. text.new.items ≡ text.old.items ++ text_at explained earlier line finding.rule) (λ fault. fault ≡ CheckFault.OutOfMemory) }
-    ensures same { explainer.new ≡ explainer.old }
-{
-    push_line(alloc, text, finding)?;
-    if !explained {
-        return Ok(());
-    }
-    push_why(alloc, text, explainer, finding)
-}
-
-/// Appends the first findings of a transcript.
-fn push_findings(
-    alloc: Global,
-    text: &mut Vec<u8>,
-    bytes: &[u8],
-    explained: bool,
-    first: &[Finding],
-) -> Result<(), CheckFault>
-    ensures { (any_seq : AnySeq) (transcript : List Line) (rest : List TheFinding) → AreLines 1 (lines bytes.now) transcript → findings any_seq transcript ≡ first.now ++ rest
-        → MatchResult result (λ done. text.new.items ≡ text.old.items ++ joined_text (take (length first.now) (texts_of any_seq explained false transcript))) (λ fault. fault ≡ CheckFault.OutOfMemory) }
-{
-    let mut explainer = Explainer::open(alloc, bytes);
-    for finding in first {
-        push_finding(alloc, text, &mut explainer, explained, *finding)?;
-    }
-    Ok(())
-}
+// ---- how many there are
 
 fn push_count(text: &mut Vec<u8>, count: u64) -> Result<(), AllocError>
     ensures { OnOk result (text.new.items ≡ text.old.items ++ count_text count) }
@@ -152,6 +64,21 @@ fn push_closing(text: &mut Vec<u8>, all: bool, count: u64) -> Result<(), AllocEr
     }
     if all {
         return push_count(text, count);
+    }
+    Ok(())
+}
+
+/// Appends what is said of the numbers of either side, where reasons are asked for.
+fn push_hint(
+    text: &mut Vec<u8>,
+    explained: bool,
+    client: SideNumbers,
+    adapter: SideNumbers,
+) -> Result<(), AllocError>
+    ensures { OnOk result (text.new.items ≡ text.old.items ++ (if explained then hint_text (nat_le 2 client.count && client.each_breaks) (nat_le 2 adapter.count && adapter.each_breaks) else [])) }
+{
+    if explained {
+        text.extend_from_slice(words_of(client.are_own(), adapter.are_own()).as_bytes())?;
     }
     Ok(())
 }
@@ -194,136 +121,62 @@ fn push_each_open(
     Ok(())
 }
 
-/// The same where it is asked for.
+/// The same of all that nothing has answered, where it is asked for.
 fn push_unanswered(
+    alloc: Global,
     text: &mut Vec<u8>,
     options: CheckOptions,
-    requests: &[OpenRequest],
+    checker: ExplainedChecker,
 ) -> Result<(), AllocError>
-    ensures { OnOk result (text.new.items ≡ text.old.items ++ open_text options.unanswered options.explained requests.now) }
+    ensures { OnOk result ((texts : List (List ℕ)) (transcript : List Line) → HasNoted (mode_of options) texts transcript checker → text.new.items ≡ text.old.items ++ open_text options.unanswered options.explained (open_requests transcript)) }
 {
-    if options.unanswered {
-        return push_each_open(text, options.explained, requests);
+    if !options.unanswered {
+        return Ok(());
     }
+    let requests = checker.unanswered(alloc)?;
+    push_each_open(text, options.explained, &requests)?;
     Ok(())
 }
 
 // ---- of a transcript
 
-/// Those that are printed: all, or the first.
-fn printed(all: bool, found: &[Finding]) -> &[Finding]
-    ensures { result.now ≡ (if all then found.now else take 1 found.now) }
+/// A verdict alone, as a line: `legal`, or the first line that breaks a rule, with that rule.
+pub fn verdict_line(alloc: Global, checked: Checked) -> Result<String, AllocError>
+    ensures { IfOk result (λ text. string_bytes text ≡ text_of_checked checked) }
 {
-    if all {
-        return found;
-    }
-    match found {
-        [] => found,
-        _ => &found[..1],
+    match checked {
+        Checked::Legal => format!(in alloc; "legal\n"),
+        Checked::Finding { line, rule } => rule_text(alloc, line, rule.number()),
     }
 }
 
-/// What is printed of what was found in a transcript by the seven rules.
-fn text_of(
-    alloc: Global,
-    bytes: &[u8],
-    options: CheckOptions,
-    report: &Report,
-) -> Result<Vec<u8>, CheckFault>
-    ensures { (transcript : List Line) → AreLines 1 (lines bytes.now) transcript → IsReport options.any_seq transcript report.now
-        → MatchResult result (λ text. text.items ≡ printed_text options (texts_of options.any_seq options.explained false transcript) transcript) (λ fault. fault ≡ CheckFault.OutOfMemory) }
-{
-    let mut text = Vec::new(alloc);
-    let found = report.findings.as_slice();
-    let first = printed(options.all, found);
-    push_findings(alloc, &mut text, bytes, options.explained, first)?;
-    push_closing(&mut text, options.all, found.len() as u64)?;
-    push_hint(&mut text, bytes, options.explained, found)?;
-    push_unanswered(&mut text, options, &report.unanswered)?;
-    Ok(text)
-}
-
+/// What is printed of a transcript that was listed.
 fn verdict(
     alloc: Global,
-    bytes: &[u8],
     options: CheckOptions,
-    report: &Report,
-) -> Result<VerdictText, CheckFault>
-    requires { options.bodies ≡ false }
-    ensures { (transcript : List Line) → AreLines 1 (lines bytes.now) transcript → IsReport options.any_seq transcript report.now
-        → MatchResult result (IsVerdictText options transcript) (λ fault. fault ≡ CheckFault.OutOfMemory) }
+    listing: Listing,
+) -> Result<VerdictText, AllocError>
+    ensures { IfOk result (λ printed. (texts : List (List ℕ)) (transcript : List Line) → IsListed options texts transcript listing → IsVerdictText options transcript printed) }
 {
-    // A law for the proof: which lines are findings.
-    findings_are_broken_rules();
-    let found = report.findings.as_slice();
-    let is_legal = found.is_empty();
-    match text_of(alloc, bytes, options, report) {
-        Ok(text) => Ok(VerdictText { text, is_legal }),
-        Err(fault) => Err(fault),
-    }
-}
-
-/// Appends to the lines that break a rule how many there are, the hint, and the requests that nothing has answered.
-fn with_closing(
-    mut text: Vec<u8>,
-    bytes: &[u8],
-    count: u64,
-    options: CheckOptions,
-    report: &Report,
-) -> Result<Vec<u8>, AllocError>
-    ensures { IfOk result (λ all. (transcript : List Line) → AreLines 1 (lines bytes.now) transcript → findings options.any_seq transcript ≡ report.now.findings.items → all.items ≡ ((text.items ++ closing_text options.all count) ++ hint_if options.explained options.any_seq transcript) ++ open_text options.unanswered options.explained report.now.unanswered.items) }
-{
+    let Listing {
+        checker,
+        mut text,
+        count,
+        client,
+        adapter,
+    } = listing;
+    let is_legal = count == 0;
     push_closing(&mut text, options.all, count)?;
-    push_hint(
-        &mut text,
-        bytes,
-        options.explained,
-        report.findings.as_slice(),
-    )?;
-    push_unanswered(&mut text, options, &report.unanswered)?;
-    Ok(text)
-}
-
-/// The same where rule 8 counts.
-fn verdict_with_bodies(
-    alloc: Global,
-    bytes: &[u8],
-    options: CheckOptions,
-    report: &Report,
-) -> Result<VerdictText, CheckFault>
-    requires { options.bodies ≡ true }
-    ensures { (transcript : List Line) → AreLines 1 (lines bytes.now) transcript → IsReport options.any_seq transcript report.now
-        → MatchResult result (IsVerdictText options transcript) (λ fault. fault ≡ CheckFault.OutOfMemory) }
-{
-    // A law for the proof: which lines are findings.
-    findings_are_broken_rules();
-    let found = report.findings.as_slice();
-    let listing = list_lines(alloc, bytes, options, found, report.sound.as_slice())?;
-    let is_legal = listing.count == 0;
-    let text = with_closing(listing.text, bytes, listing.count, options, report)?;
+    push_hint(&mut text, options.explained, client, adapter)?;
+    push_unanswered(alloc, &mut text, options, checker)?;
     Ok(VerdictText { text, is_legal })
-}
-
-fn verdict_of(
-    alloc: Global,
-    bytes: &[u8],
-    options: CheckOptions,
-    report: &Report,
-) -> Result<VerdictText, CheckFault>
-    ensures { (transcript : List Line) → AreLines 1 (lines bytes.now) transcript → IsReport options.any_seq transcript report.now
-        → MatchResult result (IsVerdictText options transcript) (λ fault. fault ≡ CheckFault.OutOfMemory) }
-{
-    if options.bodies {
-        return verdict_with_bodies(alloc, bytes, options, report);
-    }
-    verdict(alloc, bytes, options, report)
 }
 
 /// What a program prints of a transcript: that it is legal, or the first line that breaks a rule, counted from 1, and the
 /// first rule that it breaks; as the options say it, each such line and how many there are, why each breaks its rule, with
-/// a hint where a side numbers its messages in a way of its own, and after all that each request that nothing has answered. A message that is not as the Specification has it counts as a finding
-/// of rule 8 where bodies are checked and the line breaks none of the seven. Control characters of a command are shown as `?`. For the
-/// reasons the lines are read once more.
+/// a hint where a side numbers its messages in a way of its own, and after all that each request that nothing has answered.
+/// A message that is not as the Specification has it counts as a finding of rule 8 where bodies are checked and the line
+/// breaks none of the seven. Control characters of a command are shown as `?`. Each line is read once.
 ///
 /// # Errors
 /// Those of [`check`](dap_check::check): the first line that is of neither side or no message, before any finding.
@@ -339,8 +192,13 @@ pub fn check_text(
     ensures checks { (transcript : List Line) → AreLines 1 (lines bytes.now) transcript → MatchResult result (IsVerdictText options transcript) (λ fault. fault ≡ CheckFault.OutOfMemory) }
     ensures refuses { (fault : CheckFault) → FirstRefused (lines bytes.now) fault → fault ≢ CheckFault.OutOfMemory → IsErrAnd result (λ told. (told ≡ fault) ⊎ (told ≡ CheckFault.OutOfMemory)) }
 {
-    match check_all(alloc, bytes, options.any_seq, options.bodies) {
-        Ok(report) => verdict_of(alloc, bytes, options, &report),
+    // A law for the proof: a text is one transcript, or is refused.
+    texts_are_read_in_one_way();
+    match list_lines(alloc, bytes, options) {
+        Ok(listing) => match verdict(alloc, options, listing) {
+            Ok(printed) => Ok(printed),
+            Err(_) => Err(CheckFault::OutOfMemory),
+        },
         Err(fault) => Err(fault),
     }
 }

@@ -18,7 +18,7 @@ use dap_check::{
     AnySeq, Broken, CheckFault, CheckMode, Checked, Finding, OpenRequest, Report, Side, check,
     check_all, check_by_side,
 };
-use dap_explain::{ExplainedChecker, Explainer, LineTold, Reason, explain, sentence};
+use dap_explain::{ExplainedChecker, LineTold, Reason, explain, sentence};
 use std::alloc::{AllocError, Global};
 use std::marker::Model;
 use test_kit::bodies::body_of;
@@ -152,17 +152,9 @@ fn reason_of(told: Result<Option<Reason>, CheckFault>) -> Result<Reason, Outcome
     }
 }
 
-/// The sentence that explains a finding; wrong where there is none, and where it is not that of the line alone.
-fn sentence_of(
-    alloc: Global,
-    explainer: &mut Explainer<'_>,
-    text: &str,
-    found: Finding,
-) -> Result<String, Outcome> {
-    let reason = reason_of(explainer.reason_at(alloc, found.line, found.rule))?;
-    if reason_of(explain(alloc, text.as_bytes(), found.line, found.rule))? != reason {
-        return Err(Outcome::Wrong);
-    }
+/// The sentence that explains a finding; wrong where there is none.
+fn sentence_of(alloc: Global, text: &str, found: Finding) -> Result<String, Outcome> {
+    let reason = reason_of(explain(alloc, text.as_bytes(), found.line, found.rule))?;
     match sentence(alloc, reason) {
         Ok(told) => Ok(told),
         Err(_) => Err(Outcome::Refused),
@@ -170,13 +162,8 @@ fn sentence_of(
 }
 
 /// A finding, as a row writes it.
-fn text_of_finding(
-    alloc: Global,
-    explainer: &mut Explainer<'_>,
-    text: &str,
-    found: Finding,
-) -> Result<String, Outcome> {
-    match sentence_of(alloc, explainer, text, found) {
+fn text_of_finding(alloc: Global, text: &str, found: Finding) -> Result<String, Outcome> {
+    match sentence_of(alloc, text, found) {
         Ok(told) => {
             let line = found.line;
             let written = format!(in alloc; "line {line} rule {}: {told}", found.rule.number());
@@ -195,10 +182,9 @@ fn texts_of_findings(
     text: &str,
     findings: &[Finding],
 ) -> Result<Vec<String>, Outcome> {
-    let mut explainer = Explainer::open(alloc, text.as_bytes());
     let mut texts = Vec::new(alloc);
     for found in findings {
-        let written = text_of_finding(alloc, &mut explainer, text, *found)?;
+        let written = text_of_finding(alloc, text, *found)?;
         if texts.push(written).is_err() {
             return Err(Outcome::Refused);
         }
@@ -354,7 +340,7 @@ fn judge(alloc: Global, text: &str, any_seq: AnySeq, names_all: bool) -> Result<
         Ok(checked) => checked,
         Err(fault) => return refused(alloc, fault),
     };
-    match check_all(alloc, text.as_bytes(), any_seq, true) {
+    match check_all(alloc, text.as_bytes(), any_seq) {
         Ok(report) if is_first(checked, &report) => {
             with_texts(alloc, text, any_seq, &report, names_all)
         }

@@ -1,21 +1,30 @@
+use Rattle.std.proofs.Common.{inr, sym, subst}
 use Rattle.std.specs.Str.Lines.{lines}
-use Rattle.dap_check.specs.Transcript.{AreLines, FirstRefused}
+use Rattle.dap_check.specs.declared.line.Line.{Line}
 use Rattle.dap_tool.specs.Verdicts.{IsVerdictText}
-use Rattle.dap_tool.proofs.VerdictTexts.{answered_so, refused_so}
 use Rattle.dap_tool.proofs.verdict.check_text.Goals as goal
 
-pub returns-in-Ok-clause-checked : goal.returns-in-Ok-clause-checked
-returns-in-Ok-clause-checked c =
-    let so = c.in-Ok.ensures.checked in
-    answered_so (AreLines 1 (lines c.args.bytes.now)) (IsVerdictText c.args.options) so.0 so.1 c.verdict_of.result (c.verdict_of.ensures so.0 so.1 so.2)
+pub returns-in-Ok-2-clause-checked : goal.returns-in-Ok-2-clause-checked
+returns-in-Ok-2-clause-checked c =
+    let so = c.in-Ok.ensures.listed in
+    (so.0, so.1.noted.taken.are, c.in-Ok-2.ensures (lines c.args.bytes.now) so.0 so.1)
 
-pub returns-in-Ok-clause-refused : goal.returns-in-Ok-clause-refused
-returns-in-Ok-clause-refused c =
-    let so = c.in-Ok.ensures.checked in
-    refused_so (FirstRefused (lines c.args.bytes.now)) (IsVerdictText c.args.options so.0) c.verdict_of.result (c.verdict_of.ensures so.0 so.1 so.2)
+pub returns-in-Ok-2-clause-checks : goal.returns-in-Ok-2-clause-checks
+returns-in-Ok-2-clause-checks c = λ transcript are.
+    let so = c.in-Ok.ensures.listed in
+    let same = c.texts_are_read_in_one_way.ensures.transcript 1 (lines c.args.bytes.now) so.0 transcript so.1.noted.taken.are are in
+    subst (λ z. IsVerdictText c.args.options z c.in-Ok-2.printed) same (c.in-Ok-2.ensures (lines c.args.bytes.now) so.0 so.1)
 
-pub returns-in-Ok-clause-checks : goal.returns-in-Ok-clause-checks
-returns-in-Ok-clause-checks c = λ transcript are. c.verdict_of.ensures transcript are (c.in-Ok.ensures.checks transcript are)
+pub returns-in-Ok-2-clause-refuses : goal.returns-in-Ok-2-clause-refuses
+returns-in-Ok-2-clause-refuses c = λ fault refused other.
+    let so = c.in-Ok.ensures.listed in
+    absurd (other (c.texts_are_read_in_one_way.ensures.fault.none (lines c.args.bytes.now) so.0 fault so.1.noted.taken.are refused))
 
-pub returns-in-Ok-clause-refuses : goal.returns-in-Ok-clause-refuses
-returns-in-Ok-clause-refuses c = λ fault refused other. absurd (c.in-Ok.ensures.refuses fault refused other)
+pub returns-in-Err-2-clause-refused : goal.returns-in-Err-2-clause-refused
+returns-in-Err-2-clause-refused c = inr c.in-Err-2.ensures.refused
+
+pub returns-in-Err-2-clause-checks : goal.returns-in-Err-2-clause-checks
+returns-in-Err-2-clause-checks c = λ transcript are. c.texts_are_read_in_one_way.ensures.fault.none (lines c.args.bytes.now) transcript c.in-Err-2.fault are c.in-Err-2.ensures.refused
+
+pub returns-in-Err-2-clause-refuses : goal.returns-in-Err-2-clause-refuses
+returns-in-Err-2-clause-refuses c = λ fault refused other. c.texts_are_read_in_one_way.ensures.fault.one (lines c.args.bytes.now) c.in-Err-2.fault fault c.in-Err-2.ensures.refused refused other
