@@ -37,11 +37,11 @@ use Rattle.dap_plan.proofs.ServedInOrder.{behind-others}
 
 -- ---- what the first answer says
 
-body-said : Answer → Bool
+abbrev body-said : Answer → Bool
 body-said (success body names) = is_some body
 body-said (failure f) = false
 
-is-failure : Answer → Bool
+abbrev is-failure : Answer → Bool
 is-failure (success body names) = false
 is-failure (failure f) = true
 
@@ -68,12 +68,12 @@ replied (happened h) = refl
 
 -- ---- effects whose success says the same of each command
 
-is-own : Effect → Bool
+abbrev is-own : Effect → Bool
 is-own effect.Query = false
 is-own effect.Change = false
 is-own _ = true
 
-own-body : Effect → Bool
+abbrev own-body : Effect → Bool
 own-body effect.Initialize = true
 own-body (effect.Resume how) = is_some (resume_body how)
 own-body _ = false
@@ -117,16 +117,16 @@ asked-own s r _ o = (o, refl)
 -- ---- queries and changes
 
 -- one of two steps
-either-made : (b : Bool) (yes no : Made) (seq : ℕ) (body : Option Data) (names : List Target) (x : Bool) → (answer_to seq yes.drafts ≡ Some (success body names) → is_some body ≡ x) → (answer_to seq no.drafts ≡ Some (success body names) → is_some body ≡ x)
-    → (let m : Made = (if b then yes else no) in answer_to seq m.drafts) ≡ Some (success body names) → is_some body ≡ x
-either-made true yes no seq body names x y n h = y h
-either-made false yes no seq body names x y n h = n h
+either-made : (b : Bool) (first second : Made) (seq : ℕ) (body : Option Data) (names : List Target) (x : Bool) → (answer_to seq first.drafts ≡ Some (success body names) → is_some body ≡ x) → (answer_to seq second.drafts ≡ Some (success body names) → is_some body ≡ x)
+    → (let m : Made = (if b then first else second) in answer_to seq m.drafts) ≡ Some (success body names) → is_some body ≡ x
+either-made true first second seq body names x y n h = y h
+either-made false first second seq body names x y n h = n h
 
-either-plan : (b : Bool) (yes no : Plan) (last : Reply) (seq : ℕ) (body : Option Data) (names : List Target) (x : Bool)
-    → (answer_to seq (comes_to yes last).drafts ≡ Some (success body names) → is_some body ≡ x) → (answer_to seq (comes_to no last).drafts ≡ Some (success body names) → is_some body ≡ x)
-    → (let p : Plan = (if b then yes else no) in answer_to seq (comes_to p last).drafts) ≡ Some (success body names) → is_some body ≡ x
-either-plan true yes no last seq body names x y n h = y h
-either-plan false yes no last seq body names x y n h = n h
+either-plan : (b : Bool) (first second : Plan) (last : Reply) (seq : ℕ) (body : Option Data) (names : List Target) (x : Bool)
+    → (answer_to seq (comes_to first last).drafts ≡ Some (success body names) → is_some body ≡ x) → (answer_to seq (comes_to second last).drafts ≡ Some (success body names) → is_some body ≡ x)
+    → (let p : Plan = (if b then first else second) in answer_to seq (comes_to p last).drafts) ≡ Some (success body names) → is_some body ≡ x
+either-plan true first second last seq body names x y n h = y h
+either-plan false first second last seq body names x y n h = n h
 
 query-says : (s : Session) (r : Entry) (due : QueryResult) (x : Bool) (body : Option Data) (names : List Target) → ((t : QueryAnswer) → due ≡ Ok t → is_some t.body ≡ x) → answer_to r.seq (after_query s r due).drafts ≡ Some (success body names) → is_some body ≡ x
 query-says s r (Err f) x body names k h = fails r f [] body names h
@@ -163,17 +163,21 @@ change-told view s _ c e = absurd (cc e)
 
 -- ---- by the table
 
-differ : Bool → Bool → Bool
+abbrev differ : Bool → Bool → Bool
 differ true b = not b
 differ false b = b
 
 -- its success says another thing than the row of the command
-misfits : Bool → Effect → Bool
+abbrev misfits : Bool → Effect → Bool
 misfits has e = is-own e && differ (own-body e) has
 
 own-fit : (c : Command) → list_any (λ (row : Row). misfits (has_body c) row.effect) (rows_of c) ≡ false
 own-fit command.Initialize = refl
 own-fit _ = refl
+
+or-left : (a b : Bool) → a ≡ true → (a || b) ≡ true
+or-left true b h = refl
+or-left false b h = absurd (true≢false (sym h))
 
 or-right : (a b : Bool) → b ≡ true → (a || b) ≡ true
 or-right true b h = refl
@@ -182,11 +186,16 @@ or-right false b h = h
 -- what is found is among them
 found-any : (test : Effect → Bool) (of : Row → Bool) (rows : List Row) (e : Effect) → option_map (λ (row : Row). row.effect) (find of rows) ≡ Some e → test e ≡ true → list_any (λ (row : Row). test row.effect) rows ≡ true
 found-any test of [] e h t = cc
-found-any test of (row ∷ rows) e h t = by (of row) h
+found-any test of (row ∷ rows) e h t = by (of row) (λ g. found-any test of rows e g t) h
   where
-    by : (b : Bool) → option_map (λ (one : Row). one.effect) (cond b (Some row) (find of rows)) ≡ Some e → (test row.effect || list_any (λ (one : Row). test one.effect) rows) ≡ true
-    by true h = let same : row.effect ≡ e = cc in rw (ap test same ∙ t) refl
-    by false h = or-right (test row.effect) _ (found-any test of rows e h t)
+    by : (b : Bool) → (option_map (λ (one : Row). one.effect) (find of rows) ≡ Some e → list_any (λ (one : Row). test one.effect) rows ≡ true)
+        → option_map (λ (one : Row). one.effect) (cond b (Some row) (find of rows)) ≡ Some e → (test row.effect || list_any (λ (one : Row). test one.effect) rows) ≡ true
+    by true later h = let same : row.effect ≡ e = cc in or-left (test row.effect) _ (ap test same ∙ t)
+    by false later h = or-right (test row.effect) _ (later h)
+
+both-true : (a b : Bool) → a ≡ true → b ≡ true → (a && b) ≡ true
+both-true true b h k = k
+both-true false b h k = h
 
 same-unless : (a b : Bool) → (differ a b ≡ true → ⊥) → a ≡ b
 same-unless true true d = refl
@@ -201,7 +210,7 @@ own-success view s r asked last e body names o h a =
     let both = asked-own s r e o in
     own-says view s r asked last (effect_of s r e) both.0 body names a ∙ both.1
     ∙ same-unless (own-body e) (has_body c) (λ d.
-    let misfit : misfits (has_body c) e ≡ true = rw (o, d) refl in
+    let misfit : misfits (has_body c) e ≡ true = both-true (is-own e) (differ (own-body e) (has_body c)) o d in
     true≢false (sym (found-any (misfits (has_body c)) (λ row. is_among s.phase row.phases) (rows_of c) e h misfit) ∙ own-fit c))
 
 pub successes_have_their_bodies : QueriesHaveTheirBodies → SuccessesHaveTheirBodies
