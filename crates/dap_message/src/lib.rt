@@ -18,8 +18,8 @@ pub use dap_body::{
     body_stack_trace, body_stopped, body_terminal, body_threads, body_variables,
 };
 pub use dap_call::{
-    BreakpointLocations, Call, CallFault, Capabilities, Command, Completions, Evaluate,
-    Gate, GatheredReferences, GivenObjects, Initialize, Key, MAX_ARGUMENTS, Modules, NumbersGiven,
+    BreakpointLocations, Call, CallFault, Capabilities, Command, Completions, Evaluate, Gate,
+    GatheredReferences, GivenObjects, Initialize, Key, MAX_ARGUMENTS, Modules, NumbersGiven,
     RUN_IN_TERMINAL, SetVariable, SourceKey, StackTrace, TerminalCall, Variables, frames_given,
     holders_given, read_call, read_terminal, write_call, write_terminal,
 };

@@ -138,7 +138,7 @@ does-so p s r Does d = record { some = λ f e. absurd cc; none = λ e. d }
 
 -- ---- what is answered
 
-behind-others : (seq : ℕ) (answer : Answer) (ks : List Kept) (ds : List Draft) → contains_seq seq ks ≡ false → answer_to seq (answer_each answer ks ++ ds) ≡ answer_to seq ds
+pub behind-others : (seq : ℕ) (answer : Answer) (ks : List Kept) (ds : List Draft) → contains_seq seq ks ≡ false → answer_to seq (answer_each answer ks ++ ds) ≡ answer_to seq ds
 behind-others seq answer [] ds h = refl
 behind-others seq answer (k ∷ ks) ds h = rw (false-left (k.entry.seq == seq) (contains_seq seq ks) h) (behind-others seq answer ks ds (false-right (k.entry.seq == seq) (contains_seq seq ks) h))
 

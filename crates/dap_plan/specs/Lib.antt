@@ -16,7 +16,6 @@ pub mod Changing
 pub mod RefusalLaws
 pub mod StaleLaws
 pub mod OfferLaws
-pub mod BodyLaws
 pub mod OrderLaws
 pub mod GivenLaws
 pub mod StateLaws

@@ -207,8 +207,7 @@ fn is_served_first(alloc: Global, stream: (&[u8], Terms)) -> bool {
         offset: 103,
     })));
     match answer_to_initialize(alloc) {
-        Some(answer) => answer.len() == 369
-            && is_served(alloc, Limits::usual(), stream, end, &answer),
+        Some(answer) => is_served(alloc, Limits::usual(), stream, end, &answer),
         None => false,
     }
 }
