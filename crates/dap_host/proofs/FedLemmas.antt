@@ -1,11 +1,13 @@
 -- What the polls of `tell` do over a fed debuggee: the first hears what the host told, and those behind it hear nothing.
-use Rattle.std.proofs.Common.{◌≡◌, ℕ, List, [], ◌∷◌, ◌++◌, Bool, true, false, Option, Some, None, refl, sym, ap, ◌∙◌, subst, append-nil}
-use Rattle.std.specs.Prelude.{if◌then◌else◌}
+use Rattle.std.proofs.Common.{◌≡◌, ℕ, List, [], ◌++◌, Bool, true, false, Option, Some, None, Result, Ok, Err, refl, sym, ap, ◌∙◌, subst, append-nil}
+use Rattle.std.specs.Prelude.{if◌then◌else◌, IfOk, OnOk}
 use Rattle.dap_adapter.specs.AdapterState.{AdapterState, state_of}
 use Rattle.dap_adapter.specs.Calls.{Exchanges}
-use Rattle.dap_adapter.specs.Parts.{PollsOn}
+use Rattle.dap_adapter.specs.Parts.{AnswersPiece, PollsOn, StopsAfter}
 use Rattle.dap_adapter.specs.Polled.{Polled, not_polled, polled_more, PollsFirst, TellPollsFirst}
+use Rattle.dap_adapter.specs.Run.{to_take, to_poll as to_poll_next}
 use Rattle.dap_debuggee.specs.Shown.{to_poll, Reply}
+use Rattle.dap_frame.specs.Written.{frame_of}
 use Rattle.dap_envelope.specs.declared.message.Message.{Message}
 use Rattle.dap_live.specs.Dropping.{why_unheard, unless_dropped}
 use Rattle.dap_live.specs.Hearing.{happening_by, why_not_heard, told_by}
@@ -15,12 +17,14 @@ use Rattle.dap_live.specs.MailState.{MailState, no_mail, with_coming, with_dropp
 use Rattle.dap_live.specs.declared.mail.Coming.{Coming}
 use Rattle.dap_live.specs.declared.mail.Coming.TheVariants as coming
 use Rattle.dap_live.specs.declared.mail.Dropped.{Dropped}
+use Rattle.dap_live.specs.declared.mail.HostAct.{HostAct}
 use Rattle.dap_plan.specs.Carried.{CarriedOut}
 use Rattle.dap_plan.specs.Plan.{Made, at_once, asking, no_change, written_by}
 use Rattle.dap_plan.specs.Polling.{after_happening, after_poll_reply, has_debuggee}
 use Rattle.dap_plan.specs.Session.{Session}
 use Rattle.dap_plan.specs.SessionState.{SessionState}
-use Rattle.dap_host.specs.Fed.{TellsFed, over_mail}
+use Rattle.dap_plan.specs.declared.fault.AdapterFault.{AdapterFault}
+use Rattle.dap_host.specs.Fed.{AnswersFed, TellsFed, over_mail}
 
 -- ---- mail
 
@@ -110,3 +114,35 @@ tells_fed old there new c none bytes dropped run laws empty polls is fetched =
       left = left old c given.outs (state_of there) run f ∙ ap (λ (d : Option Dropped). with_dropped d no_mail) (sym why);
       fetched = fetched;
     }
+
+-- ---- calls
+
+pub tells_from : (old p there new : AdapterState LiveState) (c : Coming) (none bytes : List ℕ) (dropped : Option Dropped) → p ≡ over_mail (with_coming c no_mail) old → has_debuggee old.session.phase ≡ true → TellPollsFirst shown_live FollowsLive → none ≡ []
+    → (has_debuggee p.session.phase ≡ true → PollsOn shown_live FollowsLive p none there bytes) → dropped ≡ there.debuggee.mail.dropped → new ≡ over_mail no_mail there → TellsFed old c bytes dropped new
+tells_from old p there new c none bytes dropped is run laws empty polls why fetched =
+    tells_fed old there new c none bytes dropped run laws empty
+    (subst (λ (a : AdapterState LiveState). PollsOn shown_live FollowsLive a none there bytes) is (polls (ap (λ (a : AdapterState LiveState). has_debuggee a.session.phase) is ∙ run))) why fetched
+
+pub stops_from : (old p new : AdapterState LiveState) (c : Coming) (none bytes : List ℕ) (fault : AdapterFault) → p ≡ over_mail (with_coming c no_mail) old → old.fault ≡ None → none ≡ []
+    → (p.fault ≡ None → StopsAfter shown_live FollowsLive p (to_poll_next 0) [] none fault new bytes) → StopsAfter shown_live FollowsLive (over_mail (with_coming c no_mail) old) (to_poll_next 0) [] [] fault new bytes
+stops_from old p new c none bytes fault is open empty stops =
+    subst (λ (z : List ℕ). StopsAfter shown_live FollowsLive (over_mail (with_coming c no_mail) old) (to_poll_next 0) [] z fault new bytes) empty
+    (subst (λ (a : AdapterState LiveState). StopsAfter shown_live FollowsLive a (to_poll_next 0) [] none fault new bytes) is (stops (ap (λ (a : AdapterState LiveState). a.fault) is ∙ open)))
+
+pub answers_from : (old there : AdapterState LiveState) (body none bytes : List ℕ) (ended : Bool) → none ≡ [] → AnswersPiece shown_live FollowsLive old (frame_of body) none there bytes ended
+    → (new : AdapterState LiveState) (acts : List HostAct) → acts ≡ there.debuggee.mail.acts → new ≡ over_mail no_mail there → AnswersFed old body bytes acts new
+answers_from old there body none bytes ended empty answers new acts are fetched = record {
+  there = there;
+  ended = ended;
+  answers = subst (λ (z : List ℕ). AnswersPiece shown_live FollowsLive old (frame_of body) z there bytes ended) empty answers;
+  acts_are = are;
+  fetched = fetched;
+}
+
+pub breaks_from : (old new : AdapterState LiveState) (body none bytes : List ℕ) (fault : AdapterFault) → old.fault ≡ None → none ≡ [] → (old.fault ≡ None → StopsAfter shown_live FollowsLive old to_take (frame_of body) none fault new bytes)
+    → StopsAfter shown_live FollowsLive old to_take (frame_of body) [] fault new bytes
+breaks_from old new body none bytes fault open empty stops = subst (λ (z : List ℕ). StopsAfter shown_live FollowsLive old to_take (frame_of body) z fault new bytes) empty (stops open)
+
+pub ok_by_two : {A E : Type 0} {P S : A → Type 0} {Q : Type 0} (r : Result A E) → ((x : A) → P x → Q → S x) → IfOk r P → OnOk r Q → IfOk r S
+ok_by_two (Ok x) f p q = f x p q
+ok_by_two (Err e) f p q = tt

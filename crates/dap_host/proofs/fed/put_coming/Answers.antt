@@ -1,7 +1,5 @@
 use Rattle.std.proofs.Common.{◌∙◌, ap}
-use Rattle.dap_adapter.specs.AdapterState.{AdapterState}
-use Rattle.dap_live.specs.LiveShown.{LiveState, with_mail}
-use Rattle.dap_live.specs.MailState.{MailState, with_coming}
+use Rattle.dap_live.specs.MailState.{with_coming}
 use Rattle.dap_host.proofs.FedLemmas.{over}
 use Rattle.dap_host.proofs.fed.put_coming.Goals as goal
 

@@ -1,4 +1,4 @@
-use Rattle.std.proofs.Common.{refl, sym, ap, ◌∙◌}
+use Rattle.std.proofs.Common.{refl, ◌∙◌}
 use Rattle.std.proofs.lemmas.Result.{on_ok_weaker}
 use Rattle.dap_host.proofs.GoingLemmas.{answered_at, goes_on_at, stopped_at, none_met}
 use Rattle.dap_host.proofs.host.Host.answer.Goals as goal
