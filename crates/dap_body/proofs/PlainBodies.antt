@@ -1,9 +1,9 @@
 -- What the builders give has no floats, and nests four deep at most.
 use Rattle.dap_json.proofs.PlainPut.{put_float, put_depth}
-use Rattle.std.proofs.Common.{◌≡◌, ℕ, suc, ◌≤◌, ◌&&◌, ◌||◌, ℤ, pos, negsuc, List, [], ◌∷◌, map, codes, Bool, true, false, not, nat_le, Option, Some, None, option_map, refl, sym, true≢false, arith}
+use Rattle.std.proofs.Common.{◌≡◌, ℕ, suc, ◌≤◌, ◌&&◌, ◌||◌, ℤ, pos, negsuc, List, [], ◌∷◌, map, Bool, true, false, not, nat_le, Option, Some, None, option_map, refl, sym, true≢false, arith}
 use Rattle.std.specs.Bool.{⊤}
 use Rattle.std.proofs.lemmas.Bool.{le-leb, leb-true, and_parts}
-use Rattle.serde_json.specs.Data.{Data, boolean, number, object, Members, no_members, member, depth, items_depth, members_depth}
+use Rattle.serde_json.specs.Data.{Data, boolean, number, object, Members, depth, items_depth, members_depth}
 use Rattle.serde_json.specs.Find.{of_integer}
 use Rattle.serde_json.specs.View.{items_of}
 use Rattle.serde_json.specs.Written.{has_float, items_have_float, members_have_float}

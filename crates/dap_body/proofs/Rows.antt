@@ -1,5 +1,5 @@
 -- What is written of a row of fields is the text of its object, which is sound.
-use Rattle.std.proofs.Common.{◌≡◌, ℕ, List, [], ◌∷◌, ◌++◌, ◌∙◌, ap, sym, Bool, true, false, Option, Some, None, map, refl, true≢false, append_assoc, IsUtf8}
+use Rattle.std.proofs.Common.{◌≡◌, ℕ, List, [], ◌∷◌, ◌++◌, ◌∙◌, ap, sym, true, false, Option, Some, None, map, refl, true≢false, append_assoc, IsUtf8}
 use Rattle.std.specs.List.{AllByRecursion, flat_map}
 use Rattle.std.specs.Ordering.{nat_cmp, match_ordering}
 use Rattle.std.specs.Cmp.Lexicographic.{slice_cmp}
@@ -12,7 +12,7 @@ use Rattle.serde_json.specs.Data.{Data, Members}
 use Rattle.serde_json.specs.View.{items_of}
 use Rattle.serde_json.specs.Written.{items_outline, members_outline}
 use Rattle.dap_json.specs.Sound.{IsSound, AreSound, HasSound, IsBefore}
-use Rattle.dap_body.specs.Row.{Row, value_data, is_before, is_in_order, with_member, members_of, object_of, list_of}
+use Rattle.dap_body.specs.Row.{Row, value_data, is_before, is_in_order, with_member, members_of, object_of}
 use Rattle.dap_body.specs.PrivateText.{tokens_of, member_tokens, wrote, wrote_row, IsSoundIfAny, HasSoundFields}
 
 -- ---- text

@@ -1,7 +1,7 @@
 use Rattle.std.proofs.Common.{◌∷◌, [], ◌++◌, ◌∙◌, ap, append_assoc}
 use Rattle.std.proofs.lemmas.List.{take_all}
 use Rattle.std.proofs.lemmas.Result.{on_ok_weaker}
-use Rattle.json.specs.Token.{begin_array, end_array}
+use Rattle.json.specs.Token.{end_array}
 use Rattle.dap_body.specs.Row.{object_of}
 use Rattle.dap_body.proofs.Rows.{items-tokens, items-sound}
 use Rattle.dap_body.proofs.row.write_list.Goals as goal
