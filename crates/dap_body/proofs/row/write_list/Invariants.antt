@@ -11,5 +11,5 @@ abbrev pub invariant-loop-element : goal.invariant-loop-element
 invariant-loop-element g l = record {
   before : l.out.before ≡ l.fn.out.before;
   tokens : l.out.tokens ≡ l.fn.out.tokens ++ begin_array ∷ flat_map (λ x. tokens_of (object_of (g.T.Fields.written x))) (take l.element-index l.elements);
-  sound : AllByRecursion (λ x. IsSound (object_of (g.T.Fields.written x))) (take l.element-index l.elements)
+  sound : AllByRecursion (λ x. IsSound (object_of (g.T.Fields.written x))) (take l.element-index l.elements);
 }
