@@ -9,6 +9,7 @@ use Rattle.dap_json.specs.Field.{if_passes, max_seq}
 use Rattle.dap_json.specs.Put.{whole_number}
 use Rattle.dap_command.specs.GivenReferences.{reference_at, references_in}
 use Rattle.dap_body.specs.ResponseBody.{stack_frame, scope, variable, evaluate_body}
+use Rattle.dap_body.specs.Row.{object_of}
 use Rattle.dap_body.specs.GivenNumbers.{references_among, BodiesGiveTheirNumbers}
 
 -- the test of a reference
@@ -44,9 +45,9 @@ numbers_read key least each number h (x ∷ xs) =
 pub bodies_give_their_numbers : BodiesGiveTheirNumbers
 bodies_give_their_numbers =
     record {
-      stack_trace = λ frames total. numbers_read (codes "id") 0 stack_frame (λ f. f.id) (λ f. refl) frames;
-      scopes = λ scopes. numbers_read (codes "variablesReference") 1 scope (λ s. s.variables_reference) (λ s. refl) scopes;
-      variables = λ variables. numbers_read (codes "variablesReference") 1 variable (λ v. v.variables_reference) (λ v. refl) variables;
+      stack_trace = λ frames total. numbers_read (codes "id") 0 (λ f. object_of (stack_frame f)) (λ f. f.id) (λ f. refl) frames;
+      scopes = λ scopes. numbers_read (codes "variablesReference") 1 (λ s. object_of (scope s)) (λ s. s.variables_reference) (λ s. refl) scopes;
+      variables = λ variables. numbers_read (codes "variablesReference") 1 (λ v. object_of (variable v)) (λ v. v.variables_reference) (λ v. refl) variables;
       evaluate = λ result reference. rw (number_read (codes "variablesReference") 1 reference (evaluate_body result reference) refl) (cons_passing (is_reference 1 reference) reference []);
       set_variable = λ value. refl;
     }

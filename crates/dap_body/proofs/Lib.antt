@@ -1,6 +1,7 @@
 pub mod Examples
 pub mod Tokens
-mod Soundness
+pub mod Rows
+mod OfParts
 pub mod PlainBodies
 pub mod GivenNumbers
 pub mod Offered

@@ -19,7 +19,7 @@ pub record Flag : Type 0 where
 abbrev flag : Gate → Bool → Flag
 flag gate on = record { gate = gate; on = on }
 
-abbrev members_with : List Flag → Members
+abbrev pub members_with : List Flag → Members
 members_with [] = no_members
 members_with (f ∷ fs) = with_flag f.gate f.on (members_with fs)
 
@@ -52,7 +52,7 @@ value_of_flags gate (f ∷ fs) =
     at_name (bytes_eq (flag_of gate) (flag_of f.gate)) gate f.gate f.on (members_with fs) refl
     ∙ ap (λ rest. if bytes_eq (flag_of gate) (flag_of f.gate) then (f.on || rest) else rest) (value_of_flags gate fs)
 
-abbrev flags_of : Capabilities → List Flag
+abbrev pub flags_of : Capabilities → List Flag
 flags_of c = flag Terminate c.terminate ∷ flag StepBack c.step_back ∷ flag SetVariable c.set_variable ∷ flag Restart c.restart ∷ flag Modules c.modules ∷ flag LoadedSources c.loaded_sources ∷ flag FunctionBreakpoints c.function_breakpoints ∷ flag ExceptionInfo c.exception_info ∷ flag ConfigurationDone c.configuration_done ∷ flag Completions c.completions ∷ flag Cancel c.cancel ∷ flag BreakpointLocations c.breakpoint_locations ∷ []
 
 or_false : (b : Bool) → (b || false) ≡ b

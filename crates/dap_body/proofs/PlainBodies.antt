@@ -1,17 +1,16 @@
 -- What the builders give has no floats, and nests four deep at most.
 use Rattle.dap_json.proofs.PlainPut.{put_float, put_depth}
-use Rattle.std.proofs.Common.{◌≡◌, ℕ, suc, ◌≤◌, ◌&&◌, ◌||◌, ℤ, pos, negsuc, List, [], ◌∷◌, map, codes, Bool, true, false, not, nat_le, Option, Some, None, refl, sym, true≢false, arith}
+use Rattle.std.proofs.Common.{◌≡◌, ℕ, suc, ◌≤◌, ◌&&◌, ◌||◌, ℤ, pos, negsuc, List, [], ◌∷◌, map, Bool, true, false, not, nat_le, Option, Some, None, option_map, refl, sym, true≢false, arith}
+use Rattle.std.specs.Bool.{⊤}
 use Rattle.std.proofs.lemmas.Bool.{le-leb, leb-true, and_parts}
-use Rattle.serde_json.specs.Data.{Data, boolean, number, object, Members, no_members, member, depth, items_depth, members_depth}
+use Rattle.serde_json.specs.Data.{Data, boolean, number, object, Members, depth, items_depth, members_depth}
 use Rattle.serde_json.specs.Find.{of_integer}
 use Rattle.serde_json.specs.View.{items_of}
 use Rattle.serde_json.specs.Written.{has_float, items_have_float, members_have_float}
-use Rattle.dap_json.specs.Put.{whole_number}
 use Rattle.dap_command.specs.Capabilities.{with_flag, capabilities_data}
 use Rattle.dap_command.specs.Command.{flag_of}
 use Rattle.dap_command.specs.declared.capabilities.Capabilities.{Capabilities}
 use Rattle.dap_command.specs.declared.command.Gate.{Gate}
-use Rattle.dap_command.specs.declared.command.Gate.TheVariants as gate
 use Rattle.serde_json.specs.Written.{compact_text}
 use Rattle.dap_json.specs.Field.{is_null}
 use Rattle.serde_json.specs.Read.{max_depth}
@@ -23,161 +22,119 @@ use Rattle.dap_body.specs.declared.event.EventBody.{EventBody}
 use Rattle.dap_body.specs.declared.event.EventBody.TheVariants.{Output, Stopped, Continued, Exited}
 use Rattle.dap_body.specs.declared.body.Body.{Body}
 use Rattle.dap_body.specs.declared.body.Body.TheVariants.{Initialize, SetBreakpoints, Threads, Continue, StackTrace, Scopes, Variables, SetVariable, Evaluate, Source as SourceText, LoadedSources, RunInTerminal}
-use Rattle.dap_body.specs.EventBody.{stopped_body, continued_body, exited_body}
-use Rattle.dap_body.specs.ResponseBody.{breakpoint, thread, source, with_source, stack_frame, scope, variable, list_of, only_member, stack_trace_body, run_in_terminal_body}
+use Rattle.dap_body.specs.EventBody.{stopped_row, continued_row, exited_row}
+use Rattle.dap_body.specs.ResponseBody.{breakpoint, thread, source, stack_frame, scope, variable, set_breakpoints_row, threads_row, stack_trace_row, scopes_row, variables_row, loaded_sources_row, run_in_terminal_row}
+use Rattle.dap_body.specs.Row.{Row, Value, text, whole, integer, flag, tree, text_if_any, whole_if_any, tree_if_any, value_data, with_member, members_of, object_of, list_of}
 use Rattle.dap_body.specs.PlainBodies.{IsPlain, ResponseBodiesArePlain, FailureBodiesArePlain, EventBodiesArePlain}
-use Rattle.dap_body.specs.declared.response.Source.{Source}
 use Rattle.dap_body.specs.declared.response.StackFrame.{StackFrame}
-use Rattle.dap_body.specs.declared.response.Thread.{Thread}
+use Rattle.dap_body.proofs.Offered.{Flag, members_with, flags_of}
 
--- ---- lists
+-- ---- rows
 
-no_floats : {A : Type 0} (each : A → Data) → ((x : A) → has_float (each x) ≡ false) → (xs : List A) → items_have_float (items_of (map each xs)) ≡ false
-no_floats each h [] = refl
-no_floats each h (x ∷ xs) = rw (h x, no_floats each h xs)
+-- without floats, and nested so deep at most
+abbrev PlainTo : ℕ → Data → Type 0
+PlainTo n d = (has_float d ≡ false) × (depth d ≤ n)
 
-shallow : {A : Type 0} (each : A → Data) → ((x : A) → depth (each x) ≤ 2) → (xs : List A) → items_depth (items_of (map each xs)) ≤ 2
-shallow each h [] = omega arith
-shallow each h (x ∷ xs) = omega (arith, h x, shallow each h xs)
+abbrev PlainIfAny : ℕ → Option Data → Type 0
+PlainIfAny n None = ⊤
+PlainIfAny n (Some d) = PlainTo n d
 
--- an object without floats, that nests no deeper than four
-plain : (ms : Members) → members_have_float ms ≡ false → members_depth ms ≤ 3 → IsPlain (object ms)
-plain ms f s = rw (f, le-leb (suc (members_depth ms)) 120 (omega arith))
+-- only of a tree something is to be shown
+abbrev and_plain : ℕ → Value → Type 0 → Type 0
+and_plain n (tree d) rest = PlainTo n d × rest
+and_plain n (tree_if_any d) rest = PlainIfAny n d × rest
+and_plain n _ rest = rest
 
--- an object of one list
-plain_list : {A : Type 0} (key : List ℕ) (each : A → Data) → ((x : A) → has_float (each x) ≡ false) → ((x : A) → depth (each x) ≤ 2) → (xs : List A) → IsPlain (only_member key (list_of each xs))
-plain_list key each f s xs = plain (member key (list_of each xs) no_members) (rw (no_floats each f xs)) (omega (arith, shallow each s xs))
-
--- ---- their elements
+abbrev HasPlain : ℕ → Row → Type 0
+HasPlain n [] = ⊤
+HasPlain n (field ∷ row) = and_plain n field.1 (HasPlain n row)
 
 int_float : (z : ℤ) → has_float (number (of_integer z)) ≡ false
 int_float (pos n) = refl
 int_float (negsuc n) = refl
 
-thread_float : (t : Thread) → has_float (thread t) ≡ false
-thread_float t = rw (int_float t.id)
+split : (n : ℕ) (v : Value) (rest : Type 0) → and_plain n v rest → PlainIfAny n (value_data v) × rest
+split n (text t) rest h = ((refl, omega arith), h)
+split n (whole m) rest h = ((refl, omega arith), h)
+split n (integer z) rest h = ((int_float z, omega arith), h)
+split n (flag on) rest h = ((refl, omega arith), h)
+split n (tree d) rest h = h
+split n (text_if_any None) rest h = (tt, h)
+split n (text_if_any (Some t)) rest h = ((refl, omega arith), h)
+split n (whole_if_any None) rest h = (tt, h)
+split n (whole_if_any (Some m)) rest h = ((refl, omega arith), h)
+split n (tree_if_any d) rest h = h
 
-source_float_at : (path : Option (List ℕ)) (name : List ℕ) (reference : Option ℕ) → has_float (source (record { name = name; path = path; source_reference = reference })) ≡ false
-source_float_at None name None = refl
-source_float_at None name (Some n) = refl
-source_float_at (Some path) name None = refl
-source_float_at (Some path) name (Some n) = refl
+abbrev MembersPlain : ℕ → Members → Type 0
+MembersPlain n ms = (members_have_float ms ≡ false) × (members_depth ms ≤ n)
 
-source_float : (s : Source) → has_float (source s) ≡ false
-source_float s = source_float_at s.path s.name s.source_reference
+member_plain : (n : ℕ) (key : List ℕ) (o : Option Data) (ms : Members) → PlainIfAny n o → MembersPlain n ms → MembersPlain n (with_member key o ms)
+member_plain n key None ms p h = h
+member_plain n key (Some d) ms p h = (rw (p.0, h.0), omega (arith, p.1, h.1))
 
-source_depth_at : (path : Option (List ℕ)) (name : List ℕ) (reference : Option ℕ) → depth (source (record { name = name; path = path; source_reference = reference })) ≤ 1
-source_depth_at None name None = omega arith
-source_depth_at None name (Some n) = omega arith
-source_depth_at (Some path) name None = omega arith
-source_depth_at (Some path) name (Some n) = omega arith
+members_plain : (n : ℕ) (row : Row) → HasPlain n row → MembersPlain n (members_of row)
+members_plain n [] h = (refl, omega arith)
+members_plain n (field ∷ row) h =
+    let p = split n field.1 (HasPlain n row) h in
+    member_plain n field.0 (value_data field.1) (members_of row) p.0 (members_plain n row p.1)
 
-source_depth : (s : Source) → depth (source s) ≤ 1
-source_depth s = source_depth_at s.path s.name s.source_reference
+object_plain : (n : ℕ) (row : Row) → HasPlain n row → PlainTo (suc n) (object_of row)
+object_plain n row h = let p = members_plain n row h in (p.0, omega (arith, p.1))
 
-optional_source_float : (source : Option Source) → members_have_float (with_source source no_members) ≡ false
-optional_source_float None = refl
-optional_source_float (Some s) = rw (source_float s)
+object_if_any : {A : Type 0} (n : ℕ) (each : A → Row) → ((x : A) → HasPlain n (each x)) → (o : Option A) → PlainIfAny (suc n) (option_map (λ x. object_of (each x)) o)
+object_if_any n each h None = tt
+object_if_any n each h (Some x) = object_plain n (each x) (h x)
 
-optional_source_depth : (source : Option Source) → members_depth (with_source source no_members) ≤ 1
-optional_source_depth None = omega arith
-optional_source_depth (Some s) = omega (arith, source_depth s)
+items_plain : {A : Type 0} (n : ℕ) (each : A → Row) → ((x : A) → HasPlain n (each x)) → (xs : List A)
+    → (items_have_float (items_of (map (λ x. object_of (each x)) xs)) ≡ false) × (items_depth (items_of (map (λ x. object_of (each x)) xs)) ≤ suc n)
+items_plain n each h [] = (refl, omega arith)
+items_plain n each h (x ∷ xs) =
+    let p = object_plain n (each x) (h x) in
+    let q = items_plain n each h xs in
+    (rw (p.0, q.0), omega (arith, p.1, q.1))
 
-frame_float : (f : StackFrame) → has_float (stack_frame f) ≡ false
-frame_float f = rw (optional_source_float f.source)
+list_plain : {A : Type 0} (n : ℕ) (each : A → Row) → ((x : A) → HasPlain n (each x)) → (xs : List A) → PlainTo (suc (suc n)) (list_of each xs)
+list_plain n each h xs = let p = items_plain n each h xs in (p.0, omega (arith, p.1))
 
-frame_depth : (f : StackFrame) → depth (stack_frame f) ≤ 2
-frame_depth f = omega (arith, optional_source_depth f.source)
+plain : (ms : Members) → MembersPlain 3 ms → IsPlain (object ms)
+plain ms p = let shallow = p.1 in rw (p.0, le-leb (suc (members_depth ms)) 120 (omega (arith, shallow)))
+
+-- an object that nests no deeper than four
+row_plain : (row : Row) → HasPlain 3 row → IsPlain (object_of row)
+row_plain row h = plain (members_of row) (members_plain 3 row h)
 
 -- ---- capabilities
 
-flag_float : (g : Gate) (on : Bool) (ms : Members) → members_have_float ms ≡ false → members_have_float (with_flag g on ms) ≡ false
-flag_float g true ms h = put_float (flag_of g) (boolean true) ms refl h
-flag_float g false ms h = h
+flag_plain : (g : Gate) (on : Bool) (ms : Members) → MembersPlain 3 ms → MembersPlain 3 (with_flag g on ms)
+flag_plain g true ms h = (put_float (flag_of g) (boolean true) ms refl h.0, put_depth (flag_of g) (boolean true) ms (omega arith) h.1)
+flag_plain g false ms h = h
 
-flag_depth : (g : Gate) (on : Bool) (ms : Members) → members_depth ms ≤ 3 → members_depth (with_flag g on ms) ≤ 3
-flag_depth g true ms h = put_depth (flag_of g) (boolean true) ms (omega arith) h
-flag_depth g false ms h = h
+flags_plain : (fs : List Flag) → MembersPlain 3 (members_with fs)
+flags_plain [] = (refl, omega arith)
+flags_plain (f ∷ fs) = flag_plain f.gate f.on (members_with fs) (flags_plain fs)
 
 capabilities_plain : (c : Capabilities) → IsPlain (capabilities_data c)
-capabilities_plain c =
-    let m1 = with_flag gate.BreakpointLocations c.breakpoint_locations no_members in
-    let m2 = with_flag gate.Cancel c.cancel m1 in
-    let m3 = with_flag gate.Completions c.completions m2 in
-    let m4 = with_flag gate.ConfigurationDone c.configuration_done m3 in
-    let m5 = with_flag gate.ExceptionInfo c.exception_info m4 in
-    let m6 = with_flag gate.FunctionBreakpoints c.function_breakpoints m5 in
-    let m7 = with_flag gate.LoadedSources c.loaded_sources m6 in
-    let m8 = with_flag gate.Modules c.modules m7 in
-    let m9 = with_flag gate.Restart c.restart m8 in
-    let m10 = with_flag gate.SetVariable c.set_variable m9 in
-    let m11 = with_flag gate.StepBack c.step_back m10 in
-    let m12 = with_flag gate.Terminate c.terminate m11 in
-    let f1 = flag_float gate.BreakpointLocations c.breakpoint_locations no_members refl in
-    let f2 = flag_float gate.Cancel c.cancel m1 f1 in
-    let f3 = flag_float gate.Completions c.completions m2 f2 in
-    let f4 = flag_float gate.ConfigurationDone c.configuration_done m3 f3 in
-    let f5 = flag_float gate.ExceptionInfo c.exception_info m4 f4 in
-    let f6 = flag_float gate.FunctionBreakpoints c.function_breakpoints m5 f5 in
-    let f7 = flag_float gate.LoadedSources c.loaded_sources m6 f6 in
-    let f8 = flag_float gate.Modules c.modules m7 f7 in
-    let f9 = flag_float gate.Restart c.restart m8 f8 in
-    let f10 = flag_float gate.SetVariable c.set_variable m9 f9 in
-    let f11 = flag_float gate.StepBack c.step_back m10 f10 in
-    let f12 = flag_float gate.Terminate c.terminate m11 f11 in
-    let d1 = flag_depth gate.BreakpointLocations c.breakpoint_locations no_members (omega arith) in
-    let d2 = flag_depth gate.Cancel c.cancel m1 d1 in
-    let d3 = flag_depth gate.Completions c.completions m2 d2 in
-    let d4 = flag_depth gate.ConfigurationDone c.configuration_done m3 d3 in
-    let d5 = flag_depth gate.ExceptionInfo c.exception_info m4 d4 in
-    let d6 = flag_depth gate.FunctionBreakpoints c.function_breakpoints m5 d5 in
-    let d7 = flag_depth gate.LoadedSources c.loaded_sources m6 d6 in
-    let d8 = flag_depth gate.Modules c.modules m7 d7 in
-    let d9 = flag_depth gate.Restart c.restart m8 d8 in
-    let d10 = flag_depth gate.SetVariable c.set_variable m9 d9 in
-    let d11 = flag_depth gate.StepBack c.step_back m10 d10 in
-    let d12 = flag_depth gate.Terminate c.terminate m11 d11 in
-    plain m12 f12 d12
+capabilities_plain c = plain (members_with (flags_of c)) (flags_plain (flags_of c))
 
 -- ---- the laws
 
-frames_plain : (frames : List StackFrame) (total : ℕ) → IsPlain (stack_trace_body frames total)
-frames_plain frames total =
-    let ms = member (codes "stackFrames") (list_of stack_frame frames) (member (codes "totalFrames") (whole_number total) no_members) in
-    plain ms (rw (no_floats stack_frame frame_float frames)) (omega (arith, shallow stack_frame frame_depth frames))
-
-stopped_plain : (reason : List ℕ) (thread : ℤ) → IsPlain (stopped_body reason thread)
-stopped_plain reason (pos n) = refl
-stopped_plain reason (negsuc n) = refl
-
-continued_plain : (thread : ℤ) → IsPlain (continued_body thread)
-continued_plain (pos n) = refl
-continued_plain (negsuc n) = refl
-
-exited_plain : (code : ℤ) → IsPlain (exited_body code)
-exited_plain (pos n) = refl
-exited_plain (negsuc n) = refl
-
-processes_plain : (process shell : Option ℕ) → IsPlain (run_in_terminal_body process shell)
-processes_plain None None = refl
-processes_plain None (Some n) = refl
-processes_plain (Some m) None = refl
-processes_plain (Some m) (Some n) = refl
+has_source : (f : StackFrame) → PlainIfAny 1 (option_map (λ s. object_of (source s)) f.source)
+has_source f = object_if_any 0 source (λ s. tt) f.source
 
 pub response_bodies_are_plain : ResponseBodiesArePlain
 response_bodies_are_plain = record {
   initialize = capabilities_plain;
-  set_breakpoints = plain_list (codes "breakpoints") breakpoint (λ b. refl) (λ b. omega arith);
-  threads = plain_list (codes "threads") thread thread_float (λ t. omega arith);
+  set_breakpoints = λ bs. row_plain (set_breakpoints_row bs) (list_plain 1 breakpoint (λ b. tt) bs, tt);
+  threads = λ ts. row_plain (threads_row ts) (list_plain 1 thread (λ t. tt) ts, tt);
   continue = refl;
-  stack_trace = frames_plain;
-  scopes = plain_list (codes "scopes") scope (λ s. refl) (λ s. omega arith);
-  variables = plain_list (codes "variables") variable (λ v. refl) (λ v. omega arith);
+  stack_trace = λ fs total. row_plain (stack_trace_row fs total) (list_plain 1 stack_frame (λ f. (has_source f, tt)) fs, tt);
+  scopes = λ ss. row_plain (scopes_row ss) (list_plain 1 scope (λ s. tt) ss, tt);
+  variables = λ vs. row_plain (variables_row vs) (list_plain 1 variable (λ v. tt) vs, tt);
   set_variable = λ value. refl;
   evaluate = λ result reference. refl;
   source = λ content. refl;
-  loaded_sources = plain_list (codes "sources") source source_float (λ s. omega (arith, source_depth s));
-  run_in_terminal = processes_plain;
+  loaded_sources = λ ss. row_plain (loaded_sources_row ss) (list_plain 1 source (λ s. tt) ss, tt);
+  run_in_terminal = λ process shell. row_plain (run_in_terminal_row process shell) tt;
 }
 
 pub failure_bodies_are_plain : FailureBodiesArePlain
@@ -186,9 +143,9 @@ failure_bodies_are_plain failure = refl
 pub event_bodies_are_plain : EventBodiesArePlain
 event_bodies_are_plain = record {
   output = λ category text. refl;
-  stopped = stopped_plain;
-  continued = continued_plain;
-  exited = exited_plain;
+  stopped = λ reason thread. row_plain (stopped_row reason thread) tt;
+  continued = λ thread. row_plain (continued_row thread) tt;
+  exited = λ code. row_plain (exited_row code) tt;
 }
 
 pub body_is_plain : (body : Body) → IsPlain (data_of body)

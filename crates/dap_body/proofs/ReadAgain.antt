@@ -7,6 +7,7 @@ use Rattle.serde_json.specs.Find.{of_integer}
 use Rattle.serde_json.specs.View.{items_of}
 use Rattle.dap_command.specs.Numbers.{is_int, int_of}
 use Rattle.dap_body.specs.ResponseBody.{thread, source, stack_frame, scope, variable, breakpoint, threads_body, stack_trace_body, scopes_body, variables_body, set_breakpoints_body, loaded_sources_body, evaluate_body}
+use Rattle.dap_body.specs.Row.{Row, object_of}
 use Rattle.dap_body.specs.declared.body.Body.TheVariants as body
 use Rattle.dap_body.specs.declared.response.Breakpoint.{Breakpoint}
 use Rattle.dap_body.specs.declared.response.Scope.{Scope}
@@ -30,11 +31,11 @@ int_again (negsuc n) e = rw e
 
 -- ---- elements
 
-thread_again : (t : Thread) → thread_fits t ≡ true → thread_of (thread t) ≡ Ok (thread_read t)
+thread_again : (t : Thread) → thread_fits t ≡ true → thread_of (object_of (thread t)) ≡ Ok (thread_read t)
 unfolding thread_of
 thread_again t e = rw (int_again t.id e)
 
-source_again : (s : Source) (path : Option (List ℕ)) (reference : Option ℕ) → s.path ≡ path → s.source_reference ≡ reference → source_fits s ≡ true → source_in (source s) ≡ Ok (source_read s)
+source_again : (s : Source) (path : Option (List ℕ)) (reference : Option ℕ) → s.path ≡ path → s.source_reference ≡ reference → source_fits s ≡ true → source_in (object_of (source s)) ≡ Ok (source_read s)
 unfolding source_in
 source_again s None None is by e = rw (is, by) refl
 source_again s None (Some n) is by e = rw (is, by) (rw (rw by at e) refl)
@@ -42,34 +43,34 @@ source_again s (Some path) None is by e = rw (is, by) refl
 source_again s (Some path) (Some n) is by e = rw (is, by) (rw (rw by at e) refl)
 
 stack_frame_with : (source : Option Source) (id line column : ℕ) (name : List ℕ) → is_number id ≡ true → is_number line ≡ true → is_number column ≡ true → optional_source_fits source ≡ true
-    → stack_frame_of (stack_frame (record { id = id; name = name; source = source; line = line; column = column })) ≡ Ok (stack_frame_read (record { id = id; name = name; source = source; line = line; column = column }))
+    → stack_frame_of (object_of (stack_frame (record { id = id; name = name; source = source; line = line; column = column }))) ≡ Ok (stack_frame_read (record { id = id; name = name; source = source; line = line; column = column }))
 unfolding stack_frame_of
 stack_frame_with None id line column name i l c fits = rw (i, l, c) refl
 stack_frame_with (Some s) id line column name i l c fits = rw (i, l, c, source_again s s.path s.source_reference refl refl fits)
 
-stack_frame_again : (f : StackFrame) → stack_frame_fits f ≡ true → stack_frame_of (stack_frame f) ≡ Ok (stack_frame_read f)
+stack_frame_again : (f : StackFrame) → stack_frame_fits f ≡ true → stack_frame_of (object_of (stack_frame f)) ≡ Ok (stack_frame_read f)
 stack_frame_again f e =
     let halves = and_parts (is_number f.id && is_number f.line) (is_number f.column && optional_source_fits f.source) e in
     let front = and_parts (is_number f.id) (is_number f.line) halves.0 in
     let back = and_parts (is_number f.column) (optional_source_fits f.source) halves.1 in
     stack_frame_with f.source f.id f.line f.column f.name front.0 front.1 back.0 back.1
 
-scope_again : (s : Scope) → scope_fits s ≡ true → scope_of (scope s) ≡ Ok (scope_read s)
+scope_again : (s : Scope) → scope_fits s ≡ true → scope_of (object_of (scope s)) ≡ Ok (scope_read s)
 unfolding scope_of
 scope_again s e = rw e
 
-variable_again : (v : Variable) → variable_fits v ≡ true → variable_of (variable v) ≡ Ok (variable_read v)
+variable_again : (v : Variable) → variable_fits v ≡ true → variable_of (object_of (variable v)) ≡ Ok (variable_read v)
 unfolding variable_of
 variable_again v e = rw e
 
-breakpoint_again : (b : Breakpoint) → breakpoint_fits b ≡ true → breakpoint_of (breakpoint b) ≡ Ok (breakpoint_read b)
+breakpoint_again : (b : Breakpoint) → breakpoint_fits b ≡ true → breakpoint_of (object_of (breakpoint b)) ≡ Ok (breakpoint_read b)
 unfolding breakpoint_of
 breakpoint_again b e = let p = and_parts (is_whole b.id) (is_number b.line) e in rw (p.0, p.1)
 
 -- ---- lists
 
-each_again : {A B : Type 0} (write : A → Data) (seen : A → B) (fits : A → Bool) (read : Data → Read B) → ((x : A) → fits x ≡ true → read (write x) ≡ Ok (seen x))
-    → (n : ℕ) (xs : List A) → list_all fits xs ≡ true → each read n (items_of (map write xs)) ≡ Ok (map seen xs)
+each_again : {A B : Type 0} (write : A → Row) (seen : A → B) (fits : A → Bool) (read : Data → Read B) → ((x : A) → fits x ≡ true → read (object_of (write x)) ≡ Ok (seen x))
+    → (n : ℕ) (xs : List A) → list_all fits xs ≡ true → each read n (items_of (map (λ x. object_of (write x)) xs)) ≡ Ok (map seen xs)
 each_again write seen fits read h n [] e = refl
 each_again write seen fits read h n (x ∷ xs) e = let p = and_parts (fits x) (list_all fits xs) e in rw (h x p.0, each_again write seen fits read h (suc n) xs p.1)
 

@@ -1,10 +1,10 @@
 -- Why a request failed: Specification, "ErrorResponse" and "Message".
 -- The numbers, the short names, the texts and their one order are this profile's choice, but for the short names `cancelled` and `notStopped`, which are the standard's own ("Response").
 use Rattle.std.specs.Prelude.{ℕ, List, [], ◌∷◌, ◌++◌, codes}
-use Rattle.serde_json.specs.Data.{Data, string, object, no_members, member}
-use Rattle.dap_json.specs.Put.{whole_number}
+use Rattle.serde_json.specs.Data.{Data}
 use Rattle.dap_command.specs.Key.{text_of}
 use Rattle.dap_command.specs.declared.key.Key.{Key}
+use Rattle.dap_body.specs.Row.{Row as Fields, object_of, text, whole, tree}
 use Rattle.dap_body.specs.declared.failure.Failure.{Failure}
 use Rattle.dap_body.specs.declared.failure.Failure.TheVariants.{NotInitialized, AlreadyInitialized, UnknownCommand, Unsupported, BadArguments, WrongPhase, NotStopped, UnknownThread, StaleReference, UnknownSource, Debuggee, TooManyBreakpoints, TooManyReferences, ReferencesExhausted, TooLarge, Busy, Cancelled, TerminalRefused}
 
@@ -47,13 +47,14 @@ failures_in_order key =
     ∷ Debuggee ∷ TooManyBreakpoints ∷ TooManyReferences ∷ ReferencesExhausted ∷ TooLarge ∷ []
 
 -- the body of an ErrorResponse
+abbrev pub cause_row : ℕ → List ℕ → Fields
+cause_row id format = (codes "format", text format) ∷ (codes "id", whole id) ∷ []
+
+abbrev pub error_row : ℕ → List ℕ → Fields
+error_row id format = (codes "error", tree (object_of (cause_row id format))) ∷ []
+
 abbrev pub error_body : ℕ → List ℕ → Data
-error_body id format = object (
-    member (codes "error") (object (
-    member (codes "format") (string format) (
-    member (codes "id") (whole_number id)
-    no_members)))
-    no_members)
+error_body id format = object_of (error_row id format)
 
 abbrev pub failure_body : Failure → Data
 failure_body failure = error_body (row_of failure).id (row_of failure).format

@@ -1,5 +1,6 @@
 pub mod Adds
 pub mod Failure
+pub mod Row
 pub mod ResponseBody
 pub mod EventBody
 pub mod Body

@@ -1,48 +1,43 @@
--- What a writer is given for a body.
-use Rattle.std.specs.Prelude.{◌<◌, ◌^◌, ℕ, decimal, Bool, true, false, List, [], ◌∷◌, codes, Option, Some, None, IsUtf8, ⊤}
-use Rattle.json.specs.Token.{Token, key, number, string}
+-- What a writer is given for a row of fields.
+use Rattle.std.specs.Prelude.{ℕ, List, [], ◌∷◌, ◌++◌, Option, Some, None, Bool, true, false, ⊤, IsUtf8, IsTrue}
+use Rattle.json.specs.Token.{Token, key}
 use Rattle.json.specs.Tree.{json_tokens}
-use Rattle.serde_json.specs.Data.{Data, string as text_data}
+use Rattle.serde_json.specs.Data.{Data}
 use Rattle.serde_json.specs.Written.{outline}
 use Rattle.dap_json.specs.Sound.{IsSound}
-use Rattle.dap_body.specs.ResponseBody.{only_member, source}
-use Rattle.dap_body.specs.declared.response.Source.{Source}
+use Rattle.dap_body.specs.Row.{Field, Row, value_data, is_in_order}
 use Rattle.dap_body.specs.declared.body.Body.{Body}
 use Rattle.dap_body.specs.declared.body.Body.TheVariants.{Initialize}
 
 abbrev pub tokens_of : Data → List Token
 tokens_of d = json_tokens (outline d)
 
--- the member of a path, where there is one
-abbrev pub path_tokens : Option (List ℕ) → List Token
-path_tokens None = []
-path_tokens (Some path) = key (codes "path") ∷ string path ∷ []
+abbrev pub member_tokens : List ℕ → Option Data → List Token
+member_tokens k None = []
+member_tokens k (Some d) = key k ∷ tokens_of d
 
--- the member of a number, where there is one
-abbrev pub optional_number_tokens : List ℕ → Option ℕ → List Token
-optional_number_tokens k None = []
-optional_number_tokens k (Some n) = key k ∷ number (decimal n) ∷ []
+-- the tokens, with those of a field after them
+unfoldable pub wrote : Field → List Token → List Token
+wrote field ts = ts ++ member_tokens field.0 (value_data field.1)
 
-abbrev pub IsSoundOptional : Option ℕ → Type 0
-IsSoundOptional None = ⊤
-IsSoundOptional (Some n) = n < 2 ^ 64
+abbrev pub wrote_row : Row → List Token → List Token
+wrote_row [] ts = ts
+wrote_row (field ∷ row) ts = wrote_row row (wrote field ts)
 
-abbrev pub HasSoundPath : Option (List ℕ) → Type 0
-HasSoundPath None = ⊤
-HasSoundPath (Some path) = IsUtf8 path
+abbrev pub IsSoundIfAny : Option Data → Type 0
+IsSoundIfAny None = ⊤
+IsSoundIfAny (Some d) = IsSound d
 
--- the member of a source, where there is one
-abbrev pub source_tokens : Option Source → List Token
-source_tokens None = []
-source_tokens (Some s) = key (codes "source") ∷ tokens_of (source s)
+abbrev pub IsSoundField : Field → Type 0
+IsSoundField field = IsUtf8 field.0 × IsSoundIfAny (value_data field.1)
 
-abbrev pub HasSoundSource : Option Source → Type 0
-HasSoundSource None = ⊤
-HasSoundSource (Some s) = IsSound (source s)
+abbrev pub HasSoundFields : Row → Type 0
+HasSoundFields [] = ⊤
+HasSoundFields (field ∷ row) = IsSoundField field × HasSoundFields row
 
--- an object of one text
-abbrev pub text_member : List ℕ → List ℕ → Data
-text_member k text = only_member k (text_data text)
+-- the keys in order, and each value sound
+abbrev pub IsSoundRow : Row → Type 0
+IsSoundRow row = IsTrue (is_in_order row) × HasSoundFields row
 
 -- its parts are written one by one
 abbrev pub is_of_parts : Body → Bool

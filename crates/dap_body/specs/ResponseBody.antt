@@ -1,10 +1,8 @@
--- The bodies of responses, their members in the byte order of their keys: Specification, the types whose names end in "Response", and "Types".
+-- The bodies of responses, and the objects in them, as rows of fields: Specification, the types whose names end in "Response", and "Types".
 -- Which of the optional members are written is this profile's choice.
-use Rattle.std.specs.Prelude.{ℕ, List, true, false, Option, Some, None, codes, map}
-use Rattle.serde_json.specs.Data.{Data, boolean, number, string, array, object, Members, no_members, member}
-use Rattle.serde_json.specs.Find.{of_integer}
-use Rattle.serde_json.specs.View.{items_of}
-use Rattle.dap_json.specs.Put.{whole_number}
+use Rattle.std.specs.Prelude.{ℕ, List, [], ◌∷◌, true, false, Option, codes, option_map}
+use Rattle.serde_json.specs.Data.{Data}
+use Rattle.dap_body.specs.Row.{Row, object_of, list_of, text, whole, integer, flag, tree, text_if_any, whole_if_any, tree_if_any}
 use Rattle.dap_body.specs.declared.response.Breakpoint.{Breakpoint}
 use Rattle.dap_body.specs.declared.response.Scope.{Scope}
 use Rattle.dap_body.specs.declared.response.Source.{Source}
@@ -14,109 +12,94 @@ use Rattle.dap_body.specs.declared.response.Variable.{Variable}
 
 -- ---- the objects of lists
 
-abbrev pub breakpoint : Breakpoint → Data
-breakpoint b = object (
-    member (codes "id") (whole_number b.id) (
-    member (codes "line") (whole_number b.line) (
-    member (codes "verified") (boolean b.verified)
-    no_members)))
+abbrev pub breakpoint : Breakpoint → Row
+breakpoint b = (codes "id", whole b.id) ∷ (codes "line", whole b.line) ∷ (codes "verified", flag b.verified) ∷ []
 
-abbrev pub thread : Thread → Data
-thread t = object (
-    member (codes "id") (number (of_integer t.id)) (
-    member (codes "name") (string t.name)
-    no_members))
+abbrev pub thread : Thread → Row
+thread t = (codes "id", integer t.id) ∷ (codes "name", text t.name) ∷ []
 
--- a path, where there is one, before what follows
-abbrev pub with_path : Option (List ℕ) → Members → Members
-with_path None rest = rest
-with_path (Some path) rest = member (codes "path") (string path) rest
+abbrev pub source : Source → Row
+source s = (codes "name", text s.name) ∷ (codes "path", text_if_any s.path) ∷ (codes "sourceReference", whole_if_any s.source_reference) ∷ []
 
--- a number, where there is one, before what follows
-abbrev pub with_optional_number : List ℕ → Option ℕ → Members → Members
-with_optional_number key None rest = rest
-with_optional_number key (Some n) rest = member key (whole_number n) rest
+abbrev pub stack_frame : StackFrame → Row
+stack_frame f =
+    (codes "column", whole f.column) ∷ (codes "id", whole f.id) ∷ (codes "line", whole f.line) ∷ (codes "name", text f.name)
+    ∷ (codes "source", tree_if_any (option_map (λ s. object_of (source s)) f.source)) ∷ []
 
-abbrev pub source : Source → Data
-source s = object (
-    member (codes "name") (string s.name) (
-    with_path s.path (
-    with_optional_number (codes "sourceReference") s.source_reference
-    no_members)))
+abbrev pub scope : Scope → Row
+scope s = (codes "expensive", flag false) ∷ (codes "name", text s.name) ∷ (codes "variablesReference", whole s.variables_reference) ∷ []
 
--- a source, where there is one, before what follows
-abbrev pub with_source : Option Source → Members → Members
-with_source None rest = rest
-with_source (Some s) rest = member (codes "source") (source s) rest
-
-abbrev pub stack_frame : StackFrame → Data
-stack_frame f = object (
-    member (codes "column") (whole_number f.column) (
-    member (codes "id") (whole_number f.id) (
-    member (codes "line") (whole_number f.line) (
-    member (codes "name") (string f.name) (
-    with_source f.source
-    no_members)))))
-
-abbrev pub scope : Scope → Data
-scope s = object (
-    member (codes "expensive") (boolean false) (
-    member (codes "name") (string s.name) (
-    member (codes "variablesReference") (whole_number s.variables_reference)
-    no_members)))
-
-abbrev pub variable : Variable → Data
-variable v = object (
-    member (codes "name") (string v.name) (
-    member (codes "value") (string v.value) (
-    member (codes "variablesReference") (whole_number v.variables_reference)
-    no_members)))
+abbrev pub variable : Variable → Row
+variable v = (codes "name", text v.name) ∷ (codes "value", text v.value) ∷ (codes "variablesReference", whole v.variables_reference) ∷ []
 
 -- ---- the bodies
 
-abbrev pub list_of : {A : Type 0} → (A → Data) → List A → Data
-list_of each xs = array (items_of (map each xs))
+abbrev pub set_breakpoints_row : List Breakpoint → Row
+set_breakpoints_row breakpoints = (codes "breakpoints", tree (list_of breakpoint breakpoints)) ∷ []
 
-abbrev pub only_member : List ℕ → Data → Data
-only_member key d = object (member key d no_members)
+abbrev pub threads_row : List Thread → Row
+threads_row threads = (codes "threads", tree (list_of thread threads)) ∷ []
 
-abbrev pub set_breakpoints_body : List Breakpoint → Data
-set_breakpoints_body breakpoints = only_member (codes "breakpoints") (list_of breakpoint breakpoints)
-
-abbrev pub threads_body : List Thread → Data
-threads_body threads = only_member (codes "threads") (list_of thread threads)
-
-abbrev pub continue_body : Data
-continue_body = only_member (codes "allThreadsContinued") (boolean true)
+abbrev pub continue_row : Row
+continue_row = (codes "allThreadsContinued", flag true) ∷ []
 
 -- `totalFrames` counts all frames of the thread, not only those of the list
-abbrev pub stack_trace_body : List StackFrame → ℕ → Data
-stack_trace_body frames total = object (
-    member (codes "stackFrames") (list_of stack_frame frames) (
-    member (codes "totalFrames") (whole_number total)
-    no_members))
+abbrev pub stack_trace_row : List StackFrame → ℕ → Row
+stack_trace_row frames total = (codes "stackFrames", tree (list_of stack_frame frames)) ∷ (codes "totalFrames", whole total) ∷ []
 
-abbrev pub scopes_body : List Scope → Data
-scopes_body scopes = only_member (codes "scopes") (list_of scope scopes)
+abbrev pub scopes_row : List Scope → Row
+scopes_row scopes = (codes "scopes", tree (list_of scope scopes)) ∷ []
 
-abbrev pub variables_body : List Variable → Data
-variables_body variables = only_member (codes "variables") (list_of variable variables)
+abbrev pub variables_row : List Variable → Row
+variables_row variables = (codes "variables", tree (list_of variable variables)) ∷ []
 
-abbrev pub evaluate_body : List ℕ → ℕ → Data
-evaluate_body result reference = object (
-    member (codes "result") (string result) (
-    member (codes "variablesReference") (whole_number reference)
-    no_members))
+abbrev pub evaluate_row : List ℕ → ℕ → Row
+evaluate_row result reference = (codes "result", text result) ∷ (codes "variablesReference", whole reference) ∷ []
 
-abbrev pub source_body : List ℕ → Data
-source_body content = only_member (codes "content") (string content)
+abbrev pub source_row : List ℕ → Row
+source_row content = (codes "content", text content) ∷ []
 
-abbrev pub loaded_sources_body : List Source → Data
-loaded_sources_body sources = only_member (codes "sources") (list_of source sources)
+abbrev pub loaded_sources_row : List Source → Row
+loaded_sources_row sources = (codes "sources", tree (list_of source sources)) ∷ []
 
-abbrev pub set_variable_body : List ℕ → Data
-set_variable_body value = only_member (codes "value") (string value)
+abbrev pub set_variable_row : List ℕ → Row
+set_variable_row value = (codes "value", text value) ∷ []
 
 -- a client's
+abbrev pub run_in_terminal_row : Option ℕ → Option ℕ → Row
+run_in_terminal_row process shell = (codes "processId", whole_if_any process) ∷ (codes "shellProcessId", whole_if_any shell) ∷ []
+
+-- ---- as objects
+
+abbrev pub set_breakpoints_body : List Breakpoint → Data
+set_breakpoints_body breakpoints = object_of (set_breakpoints_row breakpoints)
+
+abbrev pub threads_body : List Thread → Data
+threads_body threads = object_of (threads_row threads)
+
+abbrev pub continue_body : Data
+continue_body = object_of continue_row
+
+abbrev pub stack_trace_body : List StackFrame → ℕ → Data
+stack_trace_body frames total = object_of (stack_trace_row frames total)
+
+abbrev pub scopes_body : List Scope → Data
+scopes_body scopes = object_of (scopes_row scopes)
+
+abbrev pub variables_body : List Variable → Data
+variables_body variables = object_of (variables_row variables)
+
+abbrev pub evaluate_body : List ℕ → ℕ → Data
+evaluate_body result reference = object_of (evaluate_row result reference)
+
+abbrev pub source_body : List ℕ → Data
+source_body content = object_of (source_row content)
+
+abbrev pub loaded_sources_body : List Source → Data
+loaded_sources_body sources = object_of (loaded_sources_row sources)
+
+abbrev pub set_variable_body : List ℕ → Data
+set_variable_body value = object_of (set_variable_row value)
+
 abbrev pub run_in_terminal_body : Option ℕ → Option ℕ → Data
-run_in_terminal_body process shell = object (with_optional_number (codes "processId") process (with_optional_number (codes "shellProcessId") shell no_members))
+run_in_terminal_body process shell = object_of (run_in_terminal_row process shell)

@@ -6,21 +6,18 @@ ghost use Rattle.std.specs.Prelude.{◌≡◌, ◌++◌, IfOk, OnOk, OnErr};
 ghost use Rattle.serde_json.specs.View.{view};
 ghost use Rattle.serde_json.specs.Written.{compact_text};
 ghost use Rattle.dap_json.specs.Sound.{IsSound};
-ghost use Rattle.dap_body.specs.Adds.{Adds};
 ghost use Rattle.dap_body.specs.Body.{event_data};
 ghost use Rattle.dap_body.specs.EventBody.{output_body, stopped_body, continued_body, exited_body};
-ghost use Rattle.dap_body.specs.PrivateText.{tokens_of};
 
-use crate::body::{flag, signed, text};
+use crate::row::{Fields, append_object, put_flag, put_signed, put_str, put_text};
 use dap_json::laws::text_is_read_again;
 use dap_json::{ParseFault, Text, parse};
 use json::Writer;
 use serde_json::Value;
 use std::alloc::{AllocError, Global};
-use std::mem;
 
 /// The body of an event, lent.
-#[derive(Clone, Copy, Debug)]
+#[derive(Clone, Copy, Debug, Drop)]
 pub enum EventBody<'e> {
     /// Of `output`. The category is `console`, `stdout`, `stderr` or another that the client knows.
     Output { category: &'e str, output: &'e Text },
@@ -32,61 +29,28 @@ pub enum EventBody<'e> {
     Exited { exit_code: i32 },
 }
 
-fn write_output(out: &mut Writer, category: &str, output: &Text) -> Result<(), AllocError>
-    ensures adds { OnOk result (Adds out.old out.new (tokens_of (output_body category.now output.now))) }
-    ensures sound { OnOk result (IsSound (output_body category.now output.now)) }
-    ensures before { out.new.before ≡ out.old.before }
-{
-    out.begin_object()?;
-    out.key("category")?;
-    out.string(category)?;
-    text(out, "output", output)?;
-    out.end_object()
-}
+impl<'e> Fields for EventBody<'e> {
+    ghost use Rattle.dap_body.specs.Body.{event_row};
 
-fn write_stopped(out: &mut Writer, reason: &Text, thread_id: i64) -> Result<(), AllocError>
-    ensures adds { OnOk result (Adds out.old out.new (tokens_of (stopped_body reason.now thread_id))) }
-    ensures sound { OnOk result (IsSound (stopped_body reason.now thread_id)) }
-    ensures before { out.new.before ≡ out.old.before }
-{
-    out.begin_object()?;
-    flag(out, "allThreadsStopped", true)?;
-    text(out, "reason", reason)?;
-    signed(out, "threadId", thread_id)?;
-    out.end_object()
-}
+    ghost written = { event_row };
 
-fn write_continued(out: &mut Writer, thread_id: i64) -> Result<(), AllocError>
-    ensures adds { OnOk result (Adds out.old out.new (tokens_of (continued_body thread_id))) }
-    ensures sound { OnOk result (IsSound (continued_body thread_id)) }
-    ensures before { out.new.before ≡ out.old.before }
-{
-    out.begin_object()?;
-    flag(out, "allThreadsContinued", true)?;
-    signed(out, "threadId", thread_id)?;
-    out.end_object()
-}
-
-fn write_exited(out: &mut Writer, exit_code: i32) -> Result<(), AllocError>
-    ensures adds { OnOk result (Adds out.old out.new (tokens_of (exited_body exit_code))) }
-    ensures sound { OnOk result (IsSound (exited_body exit_code)) }
-    ensures before { out.new.before ≡ out.old.before }
-{
-    out.begin_object()?;
-    signed(out, "exitCode", exit_code.into())?;
-    out.end_object()
-}
-
-fn write(out: &mut Writer, body: EventBody<'_>) -> Result<(), AllocError>
-    ensures adds { OnOk result (Adds out.old out.new (tokens_of (event_data body.entry))) }
-    ensures sound { OnOk result (IsSound (event_data body.entry)) }
-    ensures before { out.new.before ≡ out.old.before }
-{
-    match body {
-        EventBody::Output { category, output } => write_output(out, category, output),
-        EventBody::Stopped { reason, thread_id } => write_stopped(out, reason, thread_id),
-        EventBody::Continued { thread_id } => write_continued(out, thread_id),
-        EventBody::Exited { exit_code } => write_exited(out, exit_code),
+    fn write(&self, out: &mut Writer) -> Result<(), AllocError> {
+        match *self {
+            EventBody::Output { category, output } => {
+                put_str(out, "category", category)?;
+                put_text(out, "output", output)
+            }
+            EventBody::Stopped { reason, thread_id } => {
+                put_flag(out, "allThreadsStopped", true)?;
+                put_text(out, "reason", reason)?;
+                put_signed(out, "threadId", thread_id)
+            }
+            EventBody::Continued { thread_id } => {
+                put_flag(out, "allThreadsContinued", true)?;
+                put_signed(out, "threadId", thread_id)
+            }
+            EventBody::Exited { exit_code } => put_signed(out, "exitCode", exit_code.into()),
+        }
     }
 }
 
@@ -100,14 +64,7 @@ pub fn append_event_body(
     ensures sound { OnOk result (IsSound (event_data body.entry)) }
     ensures err { OnErr result (out.new.items ≡ out.old.items) }
 {
-    let end = out.len();
-    let mut writer = Writer::new(mem::replace(out, Vec::new(alloc)));
-    let result = write(&mut writer, body);
-    *out = writer.into_inner();
-    if result.is_err() {
-        out.truncate(end);
-    }
-    result
+    append_object(alloc, out, &body)
 }
 
 /// The body of an event as a tree. Its text is written, and read again.

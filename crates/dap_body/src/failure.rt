@@ -7,13 +7,12 @@ ghost use Rattle.serde_json.specs.View.{view};
 ghost use Rattle.serde_json.specs.Written.{compact_text};
 ghost use Rattle.dap_json.specs.Sound.{IsSound};
 ghost use Rattle.dap_body.specs.Failure.{bad_argument_format, error_body, failure_body, row_of};
-ghost use Rattle.dap_body.specs.PrivateText.{tokens_of};
 
+use crate::row::{Fields, append_object, put_object, put_short, put_str};
 use dap_command::Key;
 use json::Writer;
 use serde_json::{Map, Value, put};
 use std::alloc::{AllocError, Global};
-use std::mem;
 
 /// Why a request failed, in the order in which an adapter tests: the first that holds is answered. The last three come
 /// outside this order.
@@ -157,33 +156,46 @@ pub fn body_failure(alloc: Global, failure: Failure) -> Result<Value, AllocError
     Ok(Value::Object(members))
 }
 
-/// Writes that body, of a number and a text.
-fn write_error(out: &mut Writer, id: u32, format: &str) -> Result<(), AllocError>
-    ensures tokens { OnOk result (out.new.tokens ≡ out.old.tokens ++ tokens_of (error_body id format.now)) }
-    ensures sound { OnOk result (IsSound (error_body id format.now)) }
-    ensures before { out.new.before ≡ out.old.before }
-{
-    out.begin_object()?;
-    out.key("error")?;
-    out.begin_object()?;
-    out.key("format")?;
-    out.string(format)?;
-    out.key("id")?;
-    out.u64(id.into())?;
-    out.end_object()?;
-    out.end_object()
+/// The object at `error`: a number and a text.
+#[derive(Drop)]
+struct Cause<'e> {
+    id: u32,
+    format: &'e str,
 }
 
-fn write(alloc: Global, out: &mut Writer, failure: Failure) -> Result<(), AllocError>
-    ensures tokens { OnOk result (out.new.tokens ≡ out.old.tokens ++ tokens_of (failure_body failure)) }
-    ensures sound { OnOk result (IsSound (failure_body failure)) }
-    ensures before { out.new.before ≡ out.old.before }
-{
-    let id = failure.id();
-    match failure.fixed_format() {
-        Ok(format) => write_error(out, id, format),
-        Err(key) => write_error(out, id, bad_argument(alloc, key)?.as_str()),
+impl<'e> Fields for Cause<'e> {
+    ghost use Rattle.dap_body.specs.Failure.{cause_row};
+
+    ghost written = { λ cause. cause_row cause.id cause.format.now };
+
+    fn write(&self, out: &mut Writer) -> Result<(), AllocError> {
+        put_str(out, "format", self.format)?;
+        put_short(out, "id", self.id)
     }
+}
+
+#[derive(Drop)]
+struct ErrorBody<'e> {
+    error: Cause<'e>,
+}
+
+impl<'e> Fields for ErrorBody<'e> {
+    ghost use Rattle.dap_body.specs.Failure.{error_row};
+
+    ghost written = { λ body. error_row body.error.id body.error.format.now };
+
+    fn write(&self, out: &mut Writer) -> Result<(), AllocError> {
+        put_object(out, "error", &self.error)
+    }
+}
+
+fn append_error(alloc: Global, out: &mut Vec<u8>, id: u32, format: &str) -> Result<(), AllocError>
+    ensures ok { OnOk result (out.new.items ≡ out.old.items ++ compact_text (error_body id format.now)) }
+    ensures sound { OnOk result (IsSound (error_body id format.now)) }
+    ensures err { OnErr result (out.new.items ≡ out.old.items) }
+{
+    let error = Cause { id, format };
+    append_object(alloc, out, &ErrorBody { error })
 }
 
 /// Appends the text of that body, with no tree, or changes nothing.
@@ -196,12 +208,9 @@ pub fn append_failure_body(
     ensures sound { OnOk result (IsSound (failure_body failure)) }
     ensures err { OnErr result (out.new.items ≡ out.old.items) }
 {
-    let end = out.len();
-    let mut writer = Writer::new(mem::replace(out, Vec::new(alloc)));
-    let result = write(alloc, &mut writer, failure);
-    *out = writer.into_inner();
-    if result.is_err() {
-        out.truncate(end);
+    let id = failure.id();
+    match failure.fixed_format() {
+        Ok(format) => append_error(alloc, out, id, format),
+        Err(key) => append_error(alloc, out, id, bad_argument(alloc, key)?.as_str()),
     }
-    result
 }

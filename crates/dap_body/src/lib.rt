@@ -13,6 +13,7 @@ mod fault;
 mod key;
 pub mod laws;
 mod response;
+mod row;
 pub mod view;
 
 pub use body::{Body, append_body};

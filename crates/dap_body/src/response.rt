@@ -7,7 +7,12 @@ ghost use Rattle.serde_json.specs.View.{view};
 ghost use Rattle.dap_body.specs.ResponseBody.{set_breakpoints_body, threads_body, continue_body, stack_trace_body, scopes_body, variables_body, set_variable_body, evaluate_body, source_body, loaded_sources_body, run_in_terminal_body};
 
 use crate::body::Body;
+use crate::row::{
+    Fields, put_flag, put_number, put_object_if_any, put_short, put_short_if_any, put_signed,
+    put_text, put_text_if_any,
+};
 use dap_json::Text;
+use json::Writer;
 use serde_json::Value;
 use std::alloc::{AllocError, Global};
 
@@ -20,11 +25,34 @@ pub struct Breakpoint {
     pub verified: bool,
 }
 
+impl Fields for Breakpoint {
+    ghost use Rattle.dap_body.specs.ResponseBody.{breakpoint};
+
+    ghost written = { breakpoint };
+
+    fn write(&self, out: &mut Writer) -> Result<(), AllocError> {
+        put_number(out, "id", self.id)?;
+        put_short(out, "line", self.line)?;
+        put_flag(out, "verified", self.verified)
+    }
+}
+
 /// A thread of the debuggee.
 #[derive(Debug, Drop)]
 pub struct Thread {
     pub id: i64,
     pub name: Text,
+}
+
+impl Fields for Thread {
+    ghost use Rattle.dap_body.specs.ResponseBody.{thread};
+
+    ghost written = { thread };
+
+    fn write(&self, out: &mut Writer) -> Result<(), AllocError> {
+        put_signed(out, "id", self.id)?;
+        put_text(out, "name", &self.name)
+    }
 }
 
 /// A source of the debuggee.
@@ -35,6 +63,18 @@ pub struct Source {
     /// The number by which a client asks for its text, above 0; none where the client reads the file at `path` itself:
     /// Specification, "Source".
     pub source_reference: Option<u32>,
+}
+
+impl Fields for Source {
+    ghost use Rattle.dap_body.specs.ResponseBody.{source};
+
+    ghost written = { source };
+
+    fn write(&self, out: &mut Writer) -> Result<(), AllocError> {
+        put_text(out, "name", &self.name)?;
+        put_text_if_any(out, "path", &self.path)?;
+        put_short_if_any(out, "sourceReference", self.source_reference)
+    }
 }
 
 /// A frame of a thread's stack.
@@ -49,12 +89,38 @@ pub struct StackFrame {
     pub column: u32,
 }
 
+impl Fields for StackFrame {
+    ghost use Rattle.dap_body.specs.ResponseBody.{stack_frame};
+
+    ghost written = { stack_frame };
+
+    fn write(&self, out: &mut Writer) -> Result<(), AllocError> {
+        put_short(out, "column", self.column)?;
+        put_short(out, "id", self.id)?;
+        put_short(out, "line", self.line)?;
+        put_text(out, "name", &self.name)?;
+        put_object_if_any(out, "source", &self.source)
+    }
+}
+
 /// A scope of a frame, as `Locals`. It is never said to be expensive.
 #[derive(Debug, Drop)]
 pub struct Scope {
     pub name: Text,
     /// The number by which a client asks for its variables.
     pub variables_reference: u32,
+}
+
+impl Fields for Scope {
+    ghost use Rattle.dap_body.specs.ResponseBody.{scope};
+
+    ghost written = { scope };
+
+    fn write(&self, out: &mut Writer) -> Result<(), AllocError> {
+        put_flag(out, "expensive", false)?;
+        put_text(out, "name", &self.name)?;
+        put_short(out, "variablesReference", self.variables_reference)
+    }
 }
 
 /// A variable, with its value as text.
@@ -64,6 +130,18 @@ pub struct Variable {
     pub value: Text,
     /// The number by which a client asks for its parts, 0 where it has none.
     pub variables_reference: u32,
+}
+
+impl Fields for Variable {
+    ghost use Rattle.dap_body.specs.ResponseBody.{variable};
+
+    ghost written = { variable };
+
+    fn write(&self, out: &mut Writer) -> Result<(), AllocError> {
+        put_text(out, "name", &self.name)?;
+        put_text(out, "value", &self.value)?;
+        put_short(out, "variablesReference", self.variables_reference)
+    }
 }
 
 /// The body of the response to `setBreakpoints`: an answer to each line that was asked for, in order.

@@ -1,9 +1,8 @@
-use Rattle.std.proofs.Common.{◌≡◌, ◌∙◌, ◌++◌, ap}
-use Rattle.std.proofs.lemmas.Result.{on_ok_weaker}
-use Rattle.serde_json.proofs.Texts.{print-outline}
-use Rattle.dap_body.specs.Body.{data_of}
+use Rattle.dap_body.proofs.OfParts.{of-parts}
 use Rattle.dap_body.proofs.body.append_parts.Goals as goal
 
-pub returns-else-is_err-clause-ok : goal.returns-else-is_err-clause-ok
-returns-else-is_err-clause-ok c =
-    on_ok_weaker c.write-result.result (λ adds. c.into_inner.ensures.items ∙ rw (adds.before, adds.tokens, c.new-writer.ensures.before, c.new-writer.ensures.tokens, c.replace.ensures.value) (ap (λ s. c.args.out.now.items ++ s) (print-outline (data_of c.args.body.now)))) c.write-result.ensures.adds
+pub returns-clause-ok : goal.returns-clause-ok
+returns-clause-ok c = rw (of-parts c.args.body.now c.requires) c.append_object.ensures.ok
+
+pub returns-clause-sound : goal.returns-clause-sound
+returns-clause-sound c = rw (of-parts c.args.body.now c.requires) c.append_object.ensures.sound
