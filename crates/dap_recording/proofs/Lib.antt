@@ -12,4 +12,8 @@ pub mod ReadingExamples
 pub mod ThreeMoments
 pub mod RecordingExamples
 pub mod Ids
+pub mod Longest
+pub mod Verified
+pub mod Threads
+pub mod First
 pub mod OnePassLemmas
