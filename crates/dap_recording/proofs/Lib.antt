@@ -11,6 +11,7 @@ pub mod AloneLemmas
 pub mod ReadingExamples
 pub mod ThreeMoments
 pub mod RecordingExamples
+pub mod ShownExamples
 pub mod Ids
 pub mod Longest
 pub mod Verified
