@@ -1,5 +1,5 @@
 -- The first moment of a recording, by itself.
-use Rattle.std.proofs.Common.{◌≡◌, ◌<◌, Bool, true, ℕ, List, [], ◌∷◌, length, Some, slice_index_or, sym, ap, subst, arith}
+use Rattle.std.proofs.Common.{◌≡◌, ◌<◌, Bool, true, List, [], ◌∷◌, length, Some, slice_index_or, sym, ap, subst, arith}
 use Rattle.std.proofs.lemmas.Bool.{and_parts}
 use Rattle.std.specs.List.{list_all, slice_get}
 use Rattle.dap_recording.specs.Recording.{IsRecording, is_moment}

@@ -1,5 +1,5 @@
 -- The threads of a moment: their ids and their frames are in range, and no two frames have one number.
-use Rattle.std.proofs.Common.{◌≡◌, ◌<◌, ◌+◌, ◌++◌, arith, if◌then◌else◌, map, ℕ, zero, suc, ℤ, Bool, true, false, nat_lt, nat_le, List, [], ◌∷◌, length, Option, Some, None, option_map, refl, sym, ap, ◌∙◌, subst}
+use Rattle.std.proofs.Common.{◌≡◌, ◌<◌, ◌+◌, ◌++◌, arith, if◌then◌else◌, map, ℕ, zero, suc, ℤ, Bool, true, false, nat_lt, List, [], ◌∷◌, length, Option, Some, None, option_map, refl, sym, ap, ◌∙◌, subst}
 use Rattle.std.proofs.lemmas.Bool.{and_parts, and_from}
 use Rattle.std.proofs.lemmas.Bool.Decides.{nat_tests, Decides-int_eq}
 use Rattle.std.specs.List.{list_all, slice_get, find}
@@ -8,7 +8,7 @@ use Rattle.dap_command.specs.Numbers.{is_int}
 use Rattle.dap_debuggee.specs.Laws.{is_frame}
 use Rattle.dap_debuggee.specs.declared.answers.Frame.{Frame}
 use Rattle.dap_recording.specs.Recording.{objects_of, objects, is_moment, is_thread, are_distinct, is_rising}
-use Rattle.dap_recording.specs.Snapshot.{MomentAlone, IsAlone, HasIds, NameSources, NameOne, thread_shown, thread_with, frames_in}
+use Rattle.dap_recording.specs.Snapshot.{HasIds, NameSources, NameOne, thread_shown, thread_with, frames_in}
 use Rattle.dap_recording.specs.declared.recording.RecordedThread.{RecordedThread}
 use Rattle.dap_recording.specs.declared.recording.Moment.{Moment}
 use Rattle.dap_recording.proofs.ReadSteps.{some_same}

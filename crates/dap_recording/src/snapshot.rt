@@ -43,9 +43,8 @@ impl Model for Snapshot {
 }
 
 impl Snapshot {
-    ghost use Rattle.std.specs.Prelude.{◌≡◌, IfOk, IsErrOf, Some, map, option_map};
+    ghost use Rattle.std.specs.Prelude.{◌≡◌, IfOk, Some, map, option_map};
     ghost use Rattle.std.specs.List.{slice_get};
-    ghost use Rattle.std.specs.Option.{IsSome};
     ghost use Rattle.dap_debuggee.specs.Laws.{AnswersQuery};
     ghost use Rattle.dap_recording.specs.Recording.{IsRecording};
     ghost use Rattle.dap_recording.specs.Snapshot.{IsAlone, HasIds, NameSources, NameOne, alone_in, thread_shown, frames_in, scopes_alone, children_alone, is_among};

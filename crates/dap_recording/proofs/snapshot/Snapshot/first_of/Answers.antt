@@ -1,6 +1,6 @@
-use Rattle.std.proofs.Common.{◌≡◌, length, Some, slice_index_or, sym, ap, subst, ◌∙◌}
+use Rattle.std.proofs.Common.{◌≡◌, Some, slice_index_or, sym, ap, subst, ◌∙◌}
 use Rattle.std.specs.List.{slice_get}
-use Rattle.dap_recording.specs.Snapshot.{MomentAlone, IsAlone}
+use Rattle.dap_recording.specs.Snapshot.{IsAlone}
 use Rattle.dap_recording.proofs.First.{first_is, first_alone}
 use Rattle.dap_recording.proofs.snapshot.Snapshot.first_of.Goals as goal
 

@@ -1,5 +1,4 @@
 use Rattle.std.proofs.Common.{◌≡◌, ◌&&◌, nat_le, map, IfOk, sym, ap, subst, ◌∙◌}
-use Rattle.dap_recording.specs.Sources.{lines_verified}
 use Rattle.dap_recording.proofs.Verified.{has_line_by_most}
 use Rattle.dap_recording.proofs.sources.Sources.verify.Goals as goal
 
