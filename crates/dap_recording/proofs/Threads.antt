@@ -142,7 +142,6 @@ thread_told : (o : Option RecordedThread) (frames : List Frame) → option_map (
 thread_told None frames is = absurd (cc is)
 thread_told (Some thread) frames is = (thread, refl, some_same thread.frames frames is)
 
-
 pub frames_name_one : (threads : List RecordedThread) → is_rising (objects_of threads) ≡ true → NameOne (frames_in threads)
 frames_name_one threads rising s t fs gs i j f g of_s of_t at_f at_g same =
     let a = thread_told (thread_with s threads) fs of_s in

@@ -342,6 +342,7 @@ abbrev pub alone_over : Data → Data → Read Recording
 alone_over sources d = do
   read ← sources_of sources
   alone read d
+
 -- END
 
 abbrev pub or_fault : {A : Type 0} → Read A → Result A RecordingFault

@@ -5,9 +5,9 @@ ghost use Rattle.std.specs.Prelude.{if◌then◌else◌};
 ghost use Rattle.dap_replay.specs.Moves.{is_forward};
 ghost use Rattle.dap_recording.specs.Recording.{IsRecording};
 
+use crate::moves;
 use crate::moves::{Move, Plan, Reason};
 use crate::set_lines::SetLines;
-use crate::moves;
 use crate::variables::HolderMap;
 use dap_command::SourceKey;
 use dap_debuggee::{
