@@ -1,11 +1,11 @@
 -- A moment that is read alone is the only one of a recording, but where that is refused for the source of a frame.
-use Rattle.std.proofs.Common.{◌≡◌, ◌⊎◌, inl, inr, List, [], ◌∷◌, ◌++◌, pos, ℕ, nat_le, if◌then◌else◌, Option, option_and_then, option_map, Some, None, Ok, Err, refl, sym, ap, subst}
+use Rattle.std.proofs.Common.{◌≡◌, ◌⊎◌, inl, inr, List, [], ◌∷◌, ◌++◌, length, pos, ℕ, nat_le, if◌then◌else◌, Option, option_and_then, option_map, Some, None, Ok, Err, refl, sym, ap, subst}
 use Rattle.serde_json.specs.Data.{Data, Items, array, no_items, item}
 use Rattle.serde_json.specs.Events.{items_len}
 use Rattle.serde_json.specs.Find.{as_array, as_str}
 use Rattle.dap_json.specs.Steps.{◌>>=◌, ◌>>◌}
-use Rattle.dap_recording.specs.AloneLaw.{AloneIsTheOnlyOne}
-use Rattle.dap_recording.specs.Reading.{Read, Numbered, none_numbered, or_bad, in_shape, value_at, element, few_items, some_items, each, each_source, sources_of, source_place, frame_source, new_id, frame_of, thread_of, moment_of, moments_of, exit_of, required_at, recording_of, alone, alone_over}
+use Rattle.dap_recording.specs.AloneLaw.{AloneIsTheOnlyOne, only, read_alone}
+use Rattle.dap_recording.specs.Reading.{Read, Numbered, none_numbered, or_bad, in_shape, value_at, element, few_items, some_items, each, each_source, sources_of, source_place, frame_source, new_id, frame_of, thread_of, moment_of, moments_of, exit_of, required_at, recording_of, numbered_alone, read_moment}
 use Rattle.dap_recording.specs.declared.reading.RecordingKey.TheVariants as key
 use Rattle.dap_recording.specs.declared.reading.Teller.TheVariants as teller
 use Rattle.dap_recording.specs.declared.recording.RecordedSource.{RecordedSource}
@@ -81,11 +81,17 @@ one_more : (sources : List RecordedSource) (r : Read (Moment × Numbered)) → (
 one_more sources (Ok next) = refl
 one_more sources (Err k) = refl
 
-one_moment : (sources : List RecordedSource) (m : Data) → Near (moments_of sources (item m no_items) none_numbered >>= (λ ms. Ok (made sources ms))) (alone sources m)
-unfolding moments_of alone
+-- a moment alone, put into a recording
+one_alone : (sources : List RecordedSource) (r : Read (Moment × Numbered)) → ((r >>= (λ moment. Ok (numbered_alone (length sources) moment))) >>= (λ s. Ok (only sources s))) ≡ (r >>= (λ moment. Ok (made sources (moment.0 ∷ [], moment.1))))
+one_alone sources (Ok moment) = refl
+one_alone sources (Err k) = refl
+
+one_moment : (sources : List RecordedSource) (m : Data) → Near (moments_of sources (item m no_items) none_numbered >>= (λ ms. Ok (made sources ms))) (read_moment sources m >>= (λ s. Ok (only sources s)))
+unfolding moments_of read_moment
 one_moment sources m =
-    subst (λ r. Near r (moment_of teller.Host sources m none_numbered >>= (λ moment. Ok (made sources (moment.0 ∷ [], moment.1))))) (sym (one_more sources (moment_of teller.Recording sources m none_numbered)))
-    (near_bind (moment_of teller.Recording sources m none_numbered) (moment_of teller.Host sources m none_numbered) _ _ (near_moment sources m none_numbered) (λ moment. inl refl))
+    subst (λ r. Near r ((moment_of teller.Host sources m none_numbered >>= (λ moment. Ok (numbered_alone (length sources) moment))) >>= (λ s. Ok (only sources s)))) (sym (one_more sources (moment_of teller.Recording sources m none_numbered)))
+    (subst (λ q. Near (moment_of teller.Recording sources m none_numbered >>= (λ moment. Ok (made sources (moment.0 ∷ [], moment.1)))) q) (sym (one_alone sources (moment_of teller.Host sources m none_numbered)))
+    (near_bind (moment_of teller.Recording sources m none_numbered) (moment_of teller.Host sources m none_numbered) _ _ (near_moment sources m none_numbered) (λ moment. inl refl)))
 
 whole : (d sources m : Data) → required_at exit_of key.Exit d ≡ Ok (pos 0) → value_at key.Sources d ≡ Some sources → value_at key.Moments d ≡ Some (array (item m no_items))
     → recording_of d ≡ (sources_of sources >>= (λ xs. moments_of xs (item m no_items) none_numbered >>= (λ ms. Ok (made xs ms))))
@@ -97,5 +103,5 @@ whole d sources m exit there moments =
 
 pub alone_is_the_only_one : AloneIsTheOnlyOne
 alone_is_the_only_one d sources m exit there moments =
-    subst (λ r. Near r (alone_over sources m)) (sym (whole d sources m exit there moments))
-    (near_next (sources_of sources) (λ xs. moments_of xs (item m no_items) none_numbered >>= (λ ms. Ok (made xs ms))) (λ xs. alone xs m) (λ xs. one_moment xs m))
+    subst (λ r. Near r (read_alone sources m)) (sym (whole d sources m exit there moments))
+    (near_next (sources_of sources) (λ xs. moments_of xs (item m no_items) none_numbered >>= (λ ms. Ok (made xs ms))) (λ xs. read_moment xs m >>= (λ s. Ok (only xs s))) (λ xs. one_moment xs m))

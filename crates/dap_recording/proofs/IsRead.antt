@@ -13,7 +13,8 @@ use Rattle.dap_json.specs.Field.{if_passes, is_object}
 use Rattle.dap_json.specs.Steps.{◌>>=◌}
 use Rattle.dap_command.specs.Numbers.{is_int, int_of, number_of}
 use Rattle.dap_debuggee.specs.Laws.{is_place, is_frame}
-use Rattle.dap_recording.specs.Reading.{Read, Gives, or_fault, verdict_of, or_bad, required_at, optional_at, optional_or, element, value_at, some_items, few_items, few_in, exit_of, line_of, source_place, lines_at, short_text, in_shape, frame_source, frame_line, untold_of, stop_with, stop_of, none_numbered, place_of, new_id, thread_place, Numbered, each, each_source, scopes_of, frame_of, thread_of, moment_of, moments_of, source_of, sources_of, recording_of, alone}
+use Rattle.dap_recording.specs.Reading.{Read, Gives, or_fault, verdict_of, or_bad, required_at, optional_at, optional_or, element, value_at, some_items, few_items, few_in, exit_of, line_of, source_place, lines_at, short_text, in_shape, frame_source, frame_line, untold_of, stop_with, stop_of, none_numbered, place_of, new_id, thread_place, Numbered, each, each_source, scopes_of, frame_of, thread_of, moment_of, moments_of, source_of, sources_of, recording_of, numbered_alone, alone}
+use Rattle.dap_recording.specs.Snapshot.{IsAlone}
 use Rattle.dap_recording.specs.Recording.{objects_of, IsRecording, line_count, is_thread, is_moment, is_rising, are_distinct, is_short_text, is_short_stop, has_short_stop}
 use Rattle.dap_debuggee.specs.declared.answers.Frame.{Frame}
 use Rattle.dap_recording.specs.declared.reading.RecordingFault.{RecordingFault}
@@ -372,10 +373,36 @@ is_read d r e =
     subst IsRecording (ok_same (record { exit = exit; sources = sources; moments = moments.0; scopes = moments.1.scopes; variables = moments.1.variables; untold = moments.1.untold }) r e5)
     (recording_holds exit teller.Recording sources given moments (omega (arith, counted.1, most)) counted.0 (some_count key.Moments d given some) read))))))
 
+-- one moment that was read holds by itself
+pub alone_holds : (sources : List RecordedSource) (d : Data) (m : Moment × Numbered) → moment_of teller.Host sources d none_numbered ≡ Ok m → IsAlone (numbered_alone (length sources) m)
+alone_holds sources d m read =
+    let moments : List Moment × Numbered = (m.0 ∷ [], m.1) in
+    let all : each (λ earlier. moment_of teller.Host sources) (item d no_items) [] none_numbered ≡ Ok moments =
+    ap (λ (x : Read (Moment × Numbered)). x >>= (λ next. each (λ earlier. moment_of teller.Host sources) no_items ([] ++ next.0 ∷ []) next.1)) read in
+    record {
+      moment = (moment_holds teller.Host sources d none_numbered m read).moment;
+      holders = λ n. holders_once teller.Host sources (item d no_items) moments all n;
+      spans = spans_read teller.Host sources (item d no_items) moments all 0 m.0 refl;
+    }
+
+-- sources that were read are few
+pub items_are_few : (k : RecordingKey) (d : Data) (given : Items) (sources : List RecordedSource) → few_items k d ≡ Ok given → each_source given [] ≡ Ok sources → length sources ≤ 65536
+items_are_few k d given sources few told =
+    let counted = sources_hold given [] sources told refl in
+    let most = few_count k d given few in
+    omega (arith, counted.1, most)
+
+pub sources_are_few : (k : RecordingKey) (d : Data) (given : Items) (sources : List RecordedSource) → few_in k d ≡ Ok given → each_source given [] ≡ Ok sources → length sources ≤ 65536
+sources_are_few k d given sources few told =
+    let counted = sources_hold given [] sources told refl in
+    let most = few_in_count k d given few in
+    omega (arith, counted.1, most)
+
+-- OLD
 -- one moment, read over sources that hold
-pub alone_holds : (sources : List RecordedSource) (d : Data) (r : Recording) → alone sources d ≡ Ok r → length sources ≤ 65536 → list_all is_counted sources ≡ true → IsRecording r
+pub old_alone_holds : (sources : List RecordedSource) (d : Data) (r : Recording) → alone sources d ≡ Ok r → length sources ≤ 65536 → list_all is_counted sources ≡ true → IsRecording r
 unfolding alone
-alone_holds sources d r e most counted =
+old_alone_holds sources d r e most counted =
     with_ok (moment_of teller.Host sources d none_numbered) _ r e (λ moment read e1.
     let moments : List Moment × Numbered = (moment.0 ∷ [], moment.1) in
     let all : each (λ earlier. moment_of teller.Host sources) (item d no_items) [] none_numbered ≡ Ok moments =
@@ -392,14 +419,15 @@ sources_are_read d sources e =
     (omega (arith, counted.1, most), counted.0))
 
 pub over_read : (ds d : Data) (result : Result Recording RecordingFault) (sources : List RecordedSource) → sources_of ds ≡ Ok sources → Gives result (alone sources d) → IfOk result (λ r. IsRecording r)
-over_read ds d (Ok r) sources read gives = let are = sources_are_read ds sources read in alone_holds sources d r gives are.0 are.1
+over_read ds d (Ok r) sources read gives = let are = sources_are_read ds sources read in old_alone_holds sources d r gives are.0 are.1
 over_read ds d (Err fault) sources read gives = tt
 
 pub over_these : (these : Recording) (d : Data) (result : Result Recording RecordingFault) (sources : List RecordedSource) → sources ≡ these.sources → IsRecording these → Gives result (alone sources d) → IfOk result (λ r. IsRecording r)
 over_these these d (Ok r) sources same is gives =
-    alone_holds sources d r gives (subst (λ (xs : List RecordedSource). length xs ≤ 65536) (sym same) is.sources) (subst (λ (xs : List RecordedSource). list_all is_counted xs ≡ true) (sym same) is.lines)
+    old_alone_holds sources d r gives (subst (λ (xs : List RecordedSource). length xs ≤ 65536) (sym same) is.sources) (subst (λ (xs : List RecordedSource). list_all is_counted xs ≡ true) (sym same) is.lines)
 over_these these d (Err fault) sources same is gives = tt
 
+-- END
 pub read_holds : (d : Data) (result : Result Recording RecordingFault) → Gives result (recording_of d) → IfOk result (λ r. IsRecording r)
 read_holds d (Ok r) gives = is_read d r gives
 read_holds d (Err fault) gives = tt

@@ -11,5 +11,10 @@ pub mod AloneLemmas
 pub mod ReadingExamples
 pub mod ThreeMoments
 pub mod RecordingExamples
+pub mod ShownExamples
 pub mod Ids
+pub mod Longest
+pub mod Verified
+pub mod Threads
+pub mod First
 pub mod OnePassLemmas

@@ -1,6 +1,9 @@
 pub mod Recording
+pub mod Sources
+pub mod Snapshot
 pub mod RecordingKey
 pub mod Reading
 pub mod AloneLaw
+pub mod PrivatePaths
 pub mod PrivateReadThreads
 pub mod PrivateOnePass

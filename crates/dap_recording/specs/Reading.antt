@@ -19,6 +19,7 @@ use Rattle.dap_json.specs.Property.{required, in_shape_or}
 use Rattle.dap_debuggee.specs.Laws.{is_code}
 use Rattle.dap_recording.specs.Recording.{line_count}
 use Rattle.dap_recording.specs.RecordingKey.{name_of}
+use Rattle.dap_recording.specs.Snapshot.{MomentAlone}
 use Rattle.dap_debuggee.specs.declared.answers.Frame.{Frame}
 use Rattle.dap_debuggee.specs.declared.answers.Scope.{Scope}
 use Rattle.dap_debuggee.specs.declared.answers.Variable.{Variable}
@@ -321,19 +322,30 @@ recording_of d = do
   moments ← moments_of sources given none_numbered
   Ok (record { exit = exit; sources = sources; moments = moments.0; scopes = moments.1.scopes; variables = moments.1.variables; untold = moments.1.untold })
 
+-- a moment by itself, over so many sources
+abbrev pub numbered_alone : ℕ → Moment × Numbered → MomentAlone
+numbered_alone sources m = record { moment = m.0; scopes = m.1.scopes; variables = m.1.variables; untold = m.1.untold; sources = sources }
+
 -- one moment that a host tells, over sources that were read
+unfoldable pub read_moment : List RecordedSource → Data → Read MomentAlone
+read_moment sources d = do
+  moment ← moment_of teller.Host sources d none_numbered
+  Ok (numbered_alone (length sources) moment)
+
+-- OLD
 unfoldable pub alone : List RecordedSource → Data → Read Recording
 alone sources d = do
   moment ← moment_of teller.Host sources d none_numbered
   Ok (record { exit = pos 0; sources = sources; moments = moment.0 ∷ []; scopes = moment.1.scopes; variables = moment.1.variables; untold = moment.1.untold })
 
--- sources, and one moment over them
 abbrev pub alone_over : Data → Data → Read Recording
 alone_over sources d = do
   read ← sources_of sources
   alone read d
 
-abbrev pub or_fault : Read Recording → Result Recording RecordingFault
+-- END
+
+abbrev pub or_fault : {A : Type 0} → Read A → Result A RecordingFault
 or_fault (Ok r) = Ok r
 or_fault (Err k) = Err (BadKey k)
 

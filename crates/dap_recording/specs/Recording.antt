@@ -84,8 +84,11 @@ holders_of_scopes scopes = map (λ scope. scope.holder) scopes
 abbrev pub holders_of_variables : List Variable → List ℕ
 holders_of_variables variables = flat_map (λ variable. option_to_list variable.holder) variables
 
+abbrev pub holders_in : List (List Scope) → List (List Variable) → List ℕ
+holders_in scopes variables = flat_map holders_of_scopes scopes ++ flat_map holders_of_variables variables
+
 abbrev pub holders_of : Recording → List ℕ
-holders_of r = flat_map holders_of_scopes r.scopes ++ flat_map holders_of_variables r.variables
+holders_of r = holders_in r.scopes r.variables
 
 -- a number of a span
 pub record IsWithin (span : Span) (n : ℕ) : Type 0 where

@@ -1,14 +1,45 @@
-//! A recording of one moment: over sources that come with it, or over those of another recording.
+//! Sources, and one moment over them, each read alone.
 ghost use Rattle.std.specs.Prelude.{◌≡◌, IfOk};
-ghost use Rattle.dap_recording.specs.Reading.{Gives, alone, alone_over};
 ghost use Rattle.dap_recording.specs.Recording.{IsRecording};
+ghost use Rattle.dap_recording.specs.Reading.{Gives, alone, alone_over, read_moment, sources_of};
 
 use crate::reading::RecordingFault;
-use crate::recording::{Recording, Sources};
+use crate::recording::Recording;
 use crate::rows;
+use crate::snapshot::Snapshot;
+use crate::sources::Sources;
 use crate::texts::Texts;
 use dap_json::Tree;
 
+impl Sources {
+    /// The sources that JSON is: what stands in an object at `sources`.
+    ///
+    /// # Errors
+    /// `BadKey` with the first bad key. `OutOfMemory` where memory for a text, a list or a table is refused.
+    pub fn read(texts: &mut Texts, sources: &Tree) -> Result<Sources, RecordingFault>
+        ensures { Gives result (sources_of sources.now) }
+    {
+        rows::sources_in(texts, sources.value())
+    }
+}
+
+impl Snapshot {
+    /// The moment that JSON is, over sources: an element of what stands in an object at `moments`. A frame may have no source.
+    ///
+    /// # Errors
+    /// Those of [`Sources::read`].
+    pub fn read(
+        texts: &mut Texts,
+        sources: &Sources,
+        moment: &Tree,
+    ) -> Result<Snapshot, RecordingFault>
+        ensures { Gives result (read_moment sources.now moment.now) }
+    {
+        rows::moment_alone(texts, sources.as_slice(), moment.value())
+    }
+}
+
+// OLD
 impl Recording {
     /// The recording of one moment over sources, both as JSON: what stands in an object at `moments` and at `sources`. Its exit
     /// code is 0.
@@ -25,7 +56,6 @@ impl Recording {
         ensures holds { IfOk result (λ recording. IsRecording recording) }
     {
         let sources = rows::sources_in(texts, sources.value())?;
-        let sources = Sources::new(texts.alloc, sources)?;
         rows::alone(texts, sources, moment.value())
     }
 
@@ -42,3 +72,4 @@ impl Recording {
         rows::alone(texts, sources, moment.value())
     }
 }
+// END

@@ -1,21 +1,28 @@
-//! Recordings of a run: what one is, and how its bytes are read.
+//! Recordings of a run: what one is, what sources and a moment show, and how bytes are read.
 //!
 //! [`Recording::read`] gives the sources and the moments that a recording holds, or the first key of the format that is bad.
-//! This crate knows the format of recordings; it must not know how one is played.
+//! [`Sources::read`] and [`Snapshot::read`] read sources alone, and a moment alone over a number of them, by the same functions.
+//! This crate knows the format of recordings, and what sources and a moment show; it must not know how a recording is played.
 #![tactic(auto)]
 
 mod alone;
 pub mod laws;
 pub mod numbers;
 mod one_pass;
+mod paths;
 mod read;
 mod read_threads;
 mod reading;
 mod recording;
 mod rows;
+pub mod shown;
+mod snapshot;
+mod sources;
 mod texts;
 
 pub use dap_json::List;
 pub use reading::{RecordingFault, RecordingKey};
-pub use recording::{Moment, OwnStop, RecordedSource, RecordedThread, Recording, Sources, Span};
+pub use recording::{Moment, OwnStop, RecordedSource, RecordedThread, Recording, Span};
+pub use snapshot::Snapshot;
+pub use sources::Sources;
 pub use texts::Texts;

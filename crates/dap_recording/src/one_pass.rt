@@ -14,8 +14,9 @@ ghost use Rattle.dap_recording.specs.declared.reading.RecordingKey.TheVariants a
 ghost use Rattle.dap_recording.specs.declared.reading.Teller.TheVariants as teller;
 
 use crate::reading::{RecordingFault, RecordingKey, Teller};
-use crate::recording::{Moment, RecordedSource, Recording, Sources};
+use crate::recording::{Moment, RecordedSource, Recording};
 use crate::rows::Numbers;
+use crate::sources::Sources;
 use crate::texts::Texts;
 use crate::{numbers, rows};
 use dap_json::List;
@@ -107,7 +108,7 @@ fn sources(texts: &mut Texts, value: &Value) -> Result<Sources, NotGiven>
     ensures { IfOk result (λ sources. sources_of (view value.now) ≡ Ok sources) }
 {
     let sources = rows::sources_in(texts, value)?;
-    Ok(Sources::new(texts.alloc, sources)?)
+    Ok(sources)
 }
 
 /// Takes the sources, which come before the moments.

@@ -2,13 +2,12 @@
 //!
 //! Frames and holders have numbers of their own, by which their scopes and their variables are found at once: those of
 //! frame n stand at place n of `scopes`, those of holder n at place n of `variables`.
-ghost use Rattle.std.specs.Prelude.{◌≡◌, ◌++◌, IfOk, OnOk};
+ghost use Rattle.std.specs.Prelude.{◌≡◌, IfOk};
 
+use crate::sources::Sources;
 use dap_debuggee::{Frame, Scope, Variable};
 use dap_json::{List, Text};
-use std::alloc::{AllocError, Global};
-use std::marker::Model;
-use std::sync::Arc;
+use std::alloc::AllocError;
 
 #[derive(Debug, Drop)]
 pub struct RecordedSource {
@@ -114,68 +113,4 @@ impl Clone for OwnStop {
             text: copied(&self.text)?,
         })
     }
-}
-
-/// Sources, which recordings share. A contract sees the list.
-#[derive(Debug, Drop)]
-pub struct Sources {
-    held: Arc<Vec<RecordedSource>>,
-}
-
-impl Model for Sources {
-    ghost use Rattle.std.specs.Prelude.{List as Items};
-    ghost use Rattle.dap_recording.specs.declared.recording.RecordedSource.{RecordedSource};
-
-    ghost Value = { Items RecordedSource };
-
-    ghost view = { λ s. s.held.value.items };
-}
-
-impl Sources {
-    /// The sources of a `Vec`, without a copy.
-    pub fn new(alloc: Global, sources: Vec<RecordedSource>) -> Result<Sources, AllocError>
-        ensures { IfOk result (λ s. s ≡ sources.items) }
-    {
-        Ok(Sources {
-            held: Arc::new(alloc, sources)?,
-        })
-    }
-
-    /// The sources, lent.
-    pub fn as_slice(&self) -> &[RecordedSource]
-        ensures { result.now ≡ self.now }
-    {
-        self.held.as_slice()
-    }
-
-    /// These, and others behind them. It takes time in proportion to all of them; texts that are shared are not copied.
-    pub fn with(&self, alloc: Global, more: &Sources) -> Result<Sources, AllocError>
-        ensures { IfOk result (λ s. s ≡ self.now ++ more.now) }
-    {
-        let count = self.as_slice().len().saturating_add(more.as_slice().len());
-        let mut all = Vec::with_capacity(alloc, count)?;
-        push_each(&mut all, self.as_slice())?;
-        push_each(&mut all, more.as_slice())?;
-        Sources::new(alloc, all)
-    }
-}
-
-/// A copy shares the sources, and takes no memory.
-impl Clone for Sources {
-    ghost is_clone = { λ a b. b ≡ a };
-
-    fn clone(&self) -> Result<Sources, AllocError> {
-        Ok(Sources {
-            held: self.held.clone()?,
-        })
-    }
-}
-
-fn push_each(all: &mut Vec<RecordedSource>, sources: &[RecordedSource]) -> Result<(), AllocError>
-    ensures { OnOk result (all.new.items ≡ all.old.items ++ sources.now) }
-{
-    for source in sources {
-        all.push(source.clone()?)?;
-    }
-    Ok(())
 }

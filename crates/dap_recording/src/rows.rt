@@ -2,11 +2,13 @@
 ghost use Rattle.std.specs.Prelude.{◌≡◌, ◌++◌, [], IfOk, OnOk};
 ghost use Rattle.serde_json.specs.View.{view, items_view};
 ghost use Rattle.dap_recording.specs.declared.reading.RecordingKey.TheVariants as key;
-ghost use Rattle.dap_recording.specs.Reading.{Numbered, GivesListWith, GivesList, Gives, GivesWith, none_numbered, untold_of, stop_of, frame_source as frame_source_of, frame_line as frame_line_of, value_at, required_at, read_variables, variable_row, variables_of, holder_of, with_holder, each, each_source, scope_of, scopes_of, frame_of, thread_of, moment_of, moments_of, source_of, recording_of, source_place as source_place_of, line_of, lines_at, place_of, new_id as new_id_of, thread_place as thread_place_of, sources_of, alone as alone_of};
+ghost use Rattle.dap_recording.specs.Reading.{Numbered, GivesListWith, GivesList, Gives, GivesWith, none_numbered, untold_of, stop_of, frame_source as frame_source_of, frame_line as frame_line_of, value_at, required_at, read_variables, variable_row, variables_of, holder_of, with_holder, each, each_source, scope_of, scopes_of, frame_of, thread_of, moment_of, moments_of, source_of, recording_of, source_place as source_place_of, line_of, lines_at, place_of, new_id as new_id_of, thread_place as thread_place_of, sources_of, read_moment, alone as alone_of};
 
 use crate::read_threads::ReadThreads;
 use crate::reading::{RecordingFault, RecordingKey, Teller, bad};
-use crate::recording::{Moment, OwnStop, RecordedSource, RecordedThread, Recording, Sources, Span};
+use crate::recording::{Moment, OwnStop, RecordedSource, RecordedThread, Recording, Span};
+use crate::snapshot::Snapshot;
+use crate::sources::Sources;
 use crate::texts::Texts;
 use crate::{numbers, reading};
 use dap_debuggee::{Frame, Scope, Variable};
@@ -444,7 +446,8 @@ pub(crate) fn sources(
 }
 
 impl Numbers {
-    ghost use Rattle.dap_recording.specs.Reading.{Numbered};
+    ghost use Rattle.dap_recording.specs.Reading.{Numbered, numbered_alone};
+    ghost use Rattle.dap_recording.specs.Snapshot.{IsAlone};
 
     pub(crate) fn new(alloc: Global) -> Numbers
         ensures { result ≡ none_numbered }
@@ -478,6 +481,25 @@ impl Numbers {
             untold: List::new(untold),
         }
     }
+
+    /// A moment with these numbers, by itself.
+    pub(crate) fn into_snapshot(self, moment: Moment, sources: usize) -> Snapshot
+        requires { IsAlone (numbered_alone sources (moment, self)) }
+        ensures { result ≡ numbered_alone sources (moment, self) }
+    {
+        let Numbers {
+            scopes,
+            variables,
+            untold,
+        } = self;
+        Snapshot {
+            moment,
+            scopes: List::new(scopes),
+            variables: List::new(variables),
+            untold: List::new(untold),
+            sources,
+        }
+    }
 }
 
 /// The recording that an object is, or its first bad key.
@@ -496,16 +518,29 @@ pub(crate) fn recording(texts: &mut Texts, value: &Value) -> Result<Recording, R
 }
 
 /// The sources that an array is.
-pub(crate) fn sources_in(
-    texts: &mut Texts,
-    value: &Value,
-) -> Result<Vec<RecordedSource>, RecordingFault>
-    ensures { GivesList result (sources_of (view value.now)) }
+pub(crate) fn sources_in(texts: &mut Texts, value: &Value) -> Result<Sources, RecordingFault>
+    ensures { Gives result (sources_of (view value.now)) }
 {
     let items = reading::few(value, RecordingKey::Sources)?;
-    sources(texts, items)
+    let sources = sources(texts, items)?;
+    Ok(Sources::new(texts.alloc, sources)?)
 }
 
+/// One moment over sources.
+#[tactic(auto, unfolding(crate::specs::Reading::read_moment))]
+pub(crate) fn moment_alone(
+    texts: &mut Texts,
+    sources: &[RecordedSource],
+    value: &Value,
+) -> Result<Snapshot, RecordingFault>
+    ensures { Gives result (read_moment sources.now (view value.now)) }
+{
+    let mut numbers = Numbers::new(texts.alloc);
+    let moment = moment(texts, Teller::Host, sources, value, &mut numbers)?;
+    Ok(numbers.into_snapshot(moment, sources.len()))
+}
+
+// OLD
 /// The recording of one moment over sources.
 #[tactic(auto, unfolding(crate::specs::Reading::alone))]
 pub(crate) fn alone(
@@ -521,3 +556,4 @@ pub(crate) fn alone(
     moments.push(moment)?;
     Ok(numbers.into_recording(0, sources, moments))
 }
+// END

@@ -11,7 +11,7 @@ use Rattle.dap_debuggee.specs.Laws.{with_value}
 use Rattle.dap_replay.specs.Played.{Played, OfHolder, variables_at, with_variables, first_of, variables_held}
 use Rattle.dap_replay.specs.PrivateHeld.{of_holder, holders_in, KeepHolders}
 use Rattle.dap_debuggee.specs.declared.answers.Variable.{Variable}
-use Rattle.dap_replay.proofs.Ranges.{some_same}
+use Rattle.dap_recording.proofs.ReadSteps.{some_same}
 
 -- ---- as they are stored
 

@@ -3,7 +3,6 @@ pub mod Outputs
 pub mod Pieces
 pub mod Ranges
 pub mod Plain
-pub mod Verified
 pub mod SetLines
 pub mod Changed
 pub mod OneHolder
@@ -12,6 +11,5 @@ pub mod MovesExamples
 pub mod PlayedExamples
 pub mod PollsExamples
 pub mod Telling
-pub mod Longest
 pub mod Wider
 pub mod Stops

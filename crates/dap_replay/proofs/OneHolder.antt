@@ -11,7 +11,7 @@ use Rattle.dap_recording.specs.Recording.{IsRecording, holders_of_scopes, holder
 use Rattle.dap_replay.specs.PlayedLaws.{found-within}
 use Rattle.dap_replay.specs.PrivateHeld.{KeepHolders}
 use Rattle.dap_replay.proofs.Changed.{RecordedAt, recorded-at}
-use Rattle.dap_replay.proofs.Ranges.{some_same}
+use Rattle.dap_recording.proofs.ReadSteps.{some_same}
 
 -- ---- one place or two
 

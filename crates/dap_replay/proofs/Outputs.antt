@@ -1,6 +1,6 @@
 -- What is still to be written, as the code walks over the moments.
 use Rattle.std.proofs.Common.{Bool, true, false, if◌then◌else◌, ◌≡◌, ℕ, zero, suc, ◌+◌, ◌-◌, ◌≤◌, ◌<◌, List, [], ◌∷◌, map, take, drop, length, Some, None, option_map, unwrap_or, refl, sym, ap, subst, inl, inr, length-drop, ◌∙◌, arith}
-use Rattle.dap_replay.proofs.Ranges.{some_same}
+use Rattle.dap_recording.proofs.ReadSteps.{some_same}
 use Rattle.std.specs.List.{slice_get}
 use Rattle.std.specs.Str.{IsCharBoundary}
 use Rattle.std.proofs.lemmas.List.{drop-drop, get_or-drop}

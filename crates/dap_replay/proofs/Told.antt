@@ -22,7 +22,7 @@ use Rattle.dap_debuggee.specs.declared.answers.Evaluation.{Evaluation}
 use Rattle.dap_recording.specs.declared.recording.Moment.{Moment}
 use Rattle.dap_recording.specs.declared.recording.Span.{Span}
 use Rattle.dap_replay.proofs.Changed.{recorded-at}
-use Rattle.dap_replay.proofs.Ranges.{some_same}
+use Rattle.dap_recording.proofs.ReadSteps.{some_same}
 
 -- ---- what was found
 

@@ -1,5 +1,5 @@
 -- A recording with more sources: its frames name sources that are there, and all else is as it was.
-use Rattle.std.proofs.Common.{◌≡◌, ℕ, ◌<◌, ◌≤◌, ◌+◌, ◌&&◌, ◌++◌, true, nat_le, nat_lt, nat_eq, max, List, [], ◌∷◌, length, Option, Some, None, refl, ap, ◌∙◌, arith, length-append}
+use Rattle.std.proofs.Common.{◌≡◌, ℕ, ◌<◌, ◌≤◌, ◌+◌, ◌&&◌, ◌++◌, true, nat_le, nat_lt, nat_eq, List, [], ◌∷◌, length, Option, Some, None, refl, ◌∙◌, arith, length-append}
 use Rattle.std.proofs.lemmas.Bool.{ltb-true, lt-ltb, and_parts, and_from}
 use Rattle.std.proofs.lemmas.List.Folds.{list_all-append}
 use Rattle.std.specs.List.{list_all}
@@ -11,7 +11,6 @@ use Rattle.dap_recording.specs.declared.recording.RecordedSource.{RecordedSource
 use Rattle.dap_recording.specs.declared.recording.RecordedThread.{RecordedThread}
 use Rattle.dap_recording.specs.declared.recording.Moment.{Moment}
 use Rattle.dap_recording.specs.declared.recording.Recording.{Recording}
-use Rattle.dap_replay.specs.PrivateHeld.{path_lines_of, most_lines}
 
 -- ---- of so many sources, and of more
 
@@ -71,12 +70,3 @@ recording_wider r s good other few =
       holders = good.holders;
       spans = good.spans;
     }
-
--- ---- the most lines of a path
-
-max-assoc : (a b c : ℕ) → max (max a b) c ≡ max a (max b c)
-max-assoc a b c = omega arith
-
-pub most_both : (path : List ℕ) (xs ys : List RecordedSource) → max (most_lines path xs) (most_lines path ys) ≡ most_lines path (xs ++ ys)
-most_both path [] ys = omega arith
-most_both path (x ∷ xs) ys = max-assoc (path_lines_of path x) (most_lines path xs) (most_lines path ys) ∙ ap (max (path_lines_of path x)) (most_both path xs ys)

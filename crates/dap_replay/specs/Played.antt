@@ -1,15 +1,17 @@
 -- A recorded debuggee: what it is seen as, what it shows, and what each act does.
 -- This profile's choice.
-use Rattle.std.specs.Prelude.{◌≡◌, ℕ, zero, suc, ◌+◌, ◌-◌, ◌%◌, ◌^◌, ℤ, pos, Bool, true, false, ◌&&◌, ◌||◌, not, nat_le, nat_lt, nat_eq, bytes_eq, slice_index, List, [], ◌∷◌, ◌++◌, length, map, take, drop, Option, Some, None, option_map, option_and_then, unwrap_or, if◌then◌else◌, Result, Ok, Err}
-use Rattle.std.specs.List.{list_any, slice_get, find}
+use Rattle.std.specs.Prelude.{◌≡◌, ℕ, zero, suc, ◌+◌, ◌-◌, ◌%◌, ◌^◌, ℤ, pos, Bool, true, false, ◌&&◌, ◌||◌, not, nat_le, nat_lt, nat_eq, slice_index, List, [], ◌∷◌, ◌++◌, length, map, take, drop, Option, Some, None, option_map, option_and_then, unwrap_or, if◌then◌else◌, Result, Ok, Err}
+use Rattle.std.specs.List.{slice_get}
 use Rattle.std.specs.Option.{IsSome}
-use Rattle.std.specs.Ordering.{int_eq}
 use Rattle.dap_command.specs.declared.source_key.SourceKey.{SourceKey}
-use Rattle.dap_command.specs.declared.source_key.SourceKey.TheVariants.{Path, Reference}
 use Rattle.dap_debuggee.specs.Shown.{Shown, Act, to_start, to_resume, to_pause, to_poll, to_set_breakpoints, to_assign, to_end, Reply, done, refused, happened, asked_of_act, Last}
 use Rattle.dap_debuggee.specs.Laws.{variable_named, with_value}
 use Rattle.dap_recording.specs.Recording.{id_at}
 use Rattle.dap_recording.specs.Reading.{IsVerdict}
+pub use Rattle.dap_recording.specs.Snapshot.{is_in, thread_shown}
+use Rattle.dap_recording.specs.Snapshot.{if_in, frames_in, is_among}
+pub use Rattle.dap_recording.specs.Sources.{source_shown, path_has_line, source_has_line, has_source_line}
+use Rattle.dap_recording.specs.Sources.{text_at, lines_verified}
 use Rattle.dap_recording.specs.declared.reading.RecordingFault.{RecordingFault}
 use Rattle.dap_replay.specs.Moves.{move_of, is_forward, stop_at}
 use Rattle.dap_debuggee.specs.declared.answers.State.{State}
@@ -18,14 +20,11 @@ use Rattle.dap_debuggee.specs.declared.answers.How.{How}
 use Rattle.dap_debuggee.specs.declared.answers.Category.TheVariants.{Stdout}
 use Rattle.dap_debuggee.specs.declared.answers.Happening.{Happening}
 use Rattle.dap_debuggee.specs.declared.answers.Happening.TheVariants as happening
-use Rattle.dap_debuggee.specs.declared.answers.Thread.{Thread}
 use Rattle.dap_debuggee.specs.declared.answers.Frame.{Frame}
 use Rattle.dap_debuggee.specs.declared.answers.Scope.{Scope}
 use Rattle.dap_debuggee.specs.declared.answers.Variable.{Variable}
 use Rattle.dap_debuggee.specs.declared.answers.Evaluation.{Evaluation}
 use Rattle.dap_debuggee.specs.declared.answers.Assigned.{Assigned}
-use Rattle.dap_debuggee.specs.declared.answers.Source.{Source}
-use Rattle.dap_recording.specs.declared.recording.RecordedSource.{RecordedSource}
 use Rattle.dap_recording.specs.declared.recording.RecordedThread.{RecordedThread}
 use Rattle.dap_recording.specs.declared.recording.Moment.{Moment}
 use Rattle.dap_recording.specs.declared.recording.Recording.{Recording}
@@ -219,13 +218,10 @@ moment_shown v = if is_there v.state then slice_get v.recording.moments v.at els
 abbrev pub threads_at : Played → List RecordedThread
 threads_at v = unwrap_or (option_map (λ m. m.threads) (moment_shown v)) []
 
-abbrev pub is_in : Span → ℕ → Bool
-is_in span n = nat_le span.from n && nat_lt n span.to
-
 -- what was found by a number, where it is one of the moment's
 abbrev pub if_within : {A : Type 0} → (Moment → Span) → Option Moment → ℕ → Option A → Option A
 if_within span None n found = None
-if_within span (Some m) n found = if is_in (span m) n then found else None
+if_within span (Some m) n found = if_in (span m) n found
 
 abbrev pub scopes_shown : Played → ℕ → Option (List Scope)
 scopes_shown v frame = if_within (λ m. m.frames) (moment_shown v) frame (slice_get v.recording.scopes frame)
@@ -235,13 +231,10 @@ children_shown v holder = if_within (λ m. m.holders) (moment_shown v) holder (v
 
 -- the holder of a scope that was told without its variables
 abbrev pub is_untold : Played → ℕ → Bool
-is_untold v holder = list_any (λ n. nat_eq n holder) v.recording.untold
-
-abbrev pub thread_shown : RecordedThread → Thread
-thread_shown thread = record { id = thread.id; name = thread.name }
+is_untold v holder = is_among holder v.recording.untold
 
 abbrev pub frames_of : Played → ℤ → Option (List Frame)
-frames_of v id = option_map (λ thread. thread.frames) (find (λ thread. int_eq id thread.id) (threads_at v))
+frames_of v id = frames_in (threads_at v) id
 
 -- the first variable of a name, in the first scope that has one, where `held` tells the variables of a holder
 abbrev pub value_in : (ℕ → Option (List Variable)) → List ℕ → List Scope → Option Variable
@@ -262,22 +255,6 @@ assigned_of name text variables = option_map (λ variable. record { value = text
 abbrev pub assigned_in : Played → ℕ → List ℕ → List ℕ → Option Assigned
 assigned_in v holder name text = assigned_of name text (children_shown v holder)
 
-abbrev pub source_shown : RecordedSource → Source
-source_shown source = record { name = source.name; path = source.path; on_disk = source.on_disk }
-
--- a source of the path has the line
-abbrev pub path_has_line : List ℕ → ℕ → RecordedSource → Bool
-path_has_line path line source = unwrap_or (option_map (bytes_eq path) source.path) false && (nat_le 1 line && nat_le line source.lines)
-
-abbrev pub source_has_line : ℕ → RecordedSource → Bool
-source_has_line line source = nat_le 1 line && nat_le line source.lines
-
--- sources are numbered from 1
-abbrev pub has_source_line : List RecordedSource → SourceKey → ℕ → Bool
-has_source_line sources (Path path) line = list_any (path_has_line path line) sources
-has_source_line sources (Reference zero) line = false
-has_source_line sources (Reference (suc n)) line = unwrap_or (option_map (source_has_line line) (slice_get sources n)) false
-
 abbrev pub shown_of : Played → Shown
 shown_of v = record {
   state = v.state;
@@ -291,8 +268,8 @@ shown_of v = record {
   evaluate = evaluation_in v;
   assigned = assigned_in v;
   sources = map source_shown v.recording.sources;
-  content = λ index. option_map (λ source. source.text) (slice_get v.recording.sources index);
-  verify = λ source lines. Some (map (has_source_line v.recording.sources source) lines);
+  content = text_at v.recording.sources;
+  verify = λ source lines. Some (lines_verified v.recording.sources source lines);
 }
 
 -- ---- the views that an act may leave

@@ -1,14 +1,11 @@
 -- How the code holds a run, the last act and the values that were set, and what that amounts to.
 -- Only private clauses, invariants and proofs cite this file.
-use Rattle.std.specs.Prelude.{ℤ, Bool, zero, max, false, bytes_eq, if◌then◌else◌, Vec, ◌≡◌, ◌⊎◌, ◌≤◌, ◌+◌, ◌%◌, ◌^◌, ℕ, suc, ◌-◌, ◌<◌, length, List, [], ◌∷◌, String, map, take, drop, Option, Some, None, option_map, unwrap_or}
-use Rattle.std.specs.List.{slice_get, find}
-use Rattle.std.specs.BTreeMap.{BTreeMap, get_by_text}
-use Rattle.std.specs.Ordering.{int_eq}
+use Rattle.std.specs.Prelude.{Vec, ◌≡◌, ◌⊎◌, ◌≤◌, ◌+◌, ◌%◌, ◌^◌, ℕ, suc, ◌-◌, ◌<◌, length, List, [], ◌∷◌, map, take, drop, Option, Some, None, option_map, unwrap_or}
+use Rattle.std.specs.List.{slice_get}
+use Rattle.std.specs.BTreeMap.{BTreeMap}
 use Rattle.dap_debuggee.specs.declared.answers.Variable.{Variable}
-use Rattle.dap_recording.specs.declared.recording.RecordedThread.{RecordedThread}
 use Rattle.std.specs.Str.{IsCharBoundary}
 use Rattle.dap_debuggee.specs.Shown.{done, refused, happened, Last}
-use Rattle.dap_command.specs.declared.source_key.SourceKey.{SourceKey}
 use Rattle.dap_replay.specs.Played.{Played, Run, OfHolder, stop_of}
 use Rattle.std.specs.Option.{IsSome}
 use Rattle.dap_debuggee.specs.declared.answers.State.{State}
@@ -17,8 +14,6 @@ use Rattle.dap_debuggee.specs.declared.answers.Asked.TheVariants.{Poll}
 use Rattle.dap_debuggee.specs.declared.answers.Category.TheVariants.{Stdout}
 use Rattle.dap_debuggee.specs.declared.answers.Happening.{Happening}
 use Rattle.dap_debuggee.specs.declared.answers.Happening.TheVariants as happening
-use Rattle.dap_command.specs.declared.source_key.SourceKey.TheVariants.{Path, Reference}
-use Rattle.dap_recording.specs.declared.recording.RecordedSource.{RecordedSource}
 use Rattle.dap_recording.specs.declared.recording.Moment.{Moment}
 use Rattle.dap_recording.specs.declared.recording.Recording.{Recording}
 use Rattle.dap_replay.specs.declared.recorded.Going.{Going}
@@ -77,26 +72,6 @@ IsReady moments g = (output_left moments g ≡ []) ⊎ ((g.moment ≤ g.last) ×
 abbrev pub rest_of : Going → Run
 rest_of g = record { output = []; move = g.to; paused = g.paused }
 
--- how many lines the longest source of a path has
-abbrev pub is_of_path : List ℕ → RecordedSource → Bool
-is_of_path path source = unwrap_or (option_map (bytes_eq path) source.path) false
-
-abbrev pub path_lines_of : List ℕ → RecordedSource → ℕ
-path_lines_of path source = if is_of_path path source then source.lines else 0
-
-abbrev pub most_lines : List ℕ → List RecordedSource → ℕ
-most_lines path [] = 0
-most_lines path (source ∷ sources) = max (path_lines_of path source) (most_lines path sources)
-
--- the table has the most lines of each path
-abbrev pub HasMost : {A : Type 0} → BTreeMap (String A) ℕ → List RecordedSource → Type 0
-HasMost most sources = (path : List ℕ) → unwrap_or (get_by_text most path) 0 ≡ most_lines path sources
-
-abbrev pub lines_of_key : List RecordedSource → SourceKey → ℕ
-lines_of_key sources (Path path) = most_lines path sources
-lines_of_key sources (Reference zero) = 0
-lines_of_key sources (Reference (suc n)) = unwrap_or (option_map (λ source. source.lines) (slice_get sources n)) 0
-
 -- the variables of each holder
 abbrev pub of_holder : {A : Type 0} → ℕ × Vec Variable A → OfHolder
 of_holder e = record { holder = e.0; variables = e.1.items }
@@ -112,6 +87,3 @@ holders_in variables = map (λ variable. variable.holder) variables
 abbrev pub KeepHolders : List (List Variable) → List OfHolder → Type 0
 KeepHolders recorded [] = Unit {0}
 KeepHolders recorded (c ∷ changed) = (option_map holders_in (slice_get recorded c.holder) ≡ Some (holders_in c.variables)) × KeepHolders recorded changed
-
-abbrev pub thread_with : ℤ → List RecordedThread → Option RecordedThread
-thread_with id threads = find (λ thread. int_eq id thread.id) threads

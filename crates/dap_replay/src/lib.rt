@@ -9,7 +9,6 @@ mod acts;
 mod laws;
 mod more_sources;
 mod moves;
-mod paths;
 mod polls;
 mod queries;
 mod read;

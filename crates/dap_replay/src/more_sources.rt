@@ -1,9 +1,7 @@
 //! Sources that come later.
 
-use crate::paths;
 use crate::recorded::Recorded;
 use std::alloc::{AllocError, Global};
-use std::sync::Arc;
 
 impl Recorded {
     ghost use Rattle.std.specs.Prelude.{◌≡◌, ◌≤◌, ◌+◌, length, OnOk, OnErr};
@@ -19,12 +17,7 @@ impl Recorded {
         ensures added { OnOk result (self.new ≡ with_sources_of more.now self.old) }
         ensures memory { OnErr result (self.new ≡ self.old) }
     {
-        let sources = &self.recording.sources;
-        let more = &more.recording.sources;
-        let paths = paths::of_both(alloc, sources.as_slice(), more.as_slice())?;
-        let paths = Arc::new(alloc, paths)?;
-        self.recording.sources = sources.with(alloc, more)?;
-        self.paths = paths;
+        self.recording.sources = self.recording.sources.with(alloc, &more.recording.sources)?;
         Ok(())
     }
 }

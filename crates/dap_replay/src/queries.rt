@@ -1,112 +1,19 @@
 //! What a recorded debuggee tells of the moment that it shows.
-ghost use Rattle.std.specs.Prelude.{◌≡◌, ◌&&◌, nat_le, IfOk, map, option_map};
-ghost use Rattle.dap_replay.specs.PrivateHeld.{thread_with};
-ghost use Rattle.dap_replay.specs.Played.{is_in as is_in_span, source_shown, thread_shown};
 
 use crate::recorded::Recorded;
 use crate::variables;
-use dap_command::SourceKey;
-use dap_debuggee::{
-    Assigned, DebuggeeFault, Evaluation, Frame, Scope, Source, State, Thread, Variable,
-};
-use dap_json::{List, Text};
-use dap_recording::{Moment, RecordedSource, RecordedThread, Span};
+use dap_debuggee::{Assigned, DebuggeeFault, Evaluation, Frame, Scope, State, Thread, Variable};
+use dap_json::Text;
+use dap_recording::{Moment, RecordedThread, shown};
 use std::alloc::{AllocError, Global};
 
-fn threads(alloc: Global, threads: &[RecordedThread]) -> Result<Vec<Thread>, AllocError>
-    ensures { IfOk result (λ shown. shown.items ≡ map thread_shown threads.now) }
-{
-    let mut shown = Vec::with_capacity(alloc, threads.len())?;
-    for thread in threads {
-        shown.push(Thread {
-            id: thread.id,
-            name: thread.name.clone()?,
-        })?;
-    }
-    Ok(shown)
-}
-
-fn frames(alloc: Global, frames: &[Frame]) -> Result<Vec<Frame>, AllocError>
-    ensures { IfOk result (λ copy. copy.items ≡ frames.now) }
-{
-    let mut copy = Vec::with_capacity(alloc, frames.len())?;
-    for frame in frames {
-        copy.push(Frame {
-            object: frame.object,
-            name: frame.name.clone()?,
-            source: frame.source,
-            line: frame.line,
-        })?;
-    }
-    Ok(copy)
-}
-
-fn scopes(alloc: Global, scopes: &[Scope]) -> Result<Vec<Scope>, AllocError>
-    ensures { IfOk result (λ copy. copy.items ≡ scopes.now) }
-{
-    let mut copy = Vec::with_capacity(alloc, scopes.len())?;
-    for scope in scopes {
-        copy.push(Scope {
-            name: scope.name.clone()?,
-            holder: scope.holder,
-        })?;
-    }
-    Ok(copy)
-}
-
-fn copied_path(path: &Option<Text>) -> Result<Option<Text>, AllocError>
-    ensures { IfOk result (λ copy. copy ≡ path.now) }
-{
-    match path {
-        None => Ok(None),
-        Some(path) => Ok(Some(path.clone()?)),
-    }
-}
-
-fn source_copied(source: &RecordedSource) -> Result<Source, AllocError>
-    ensures { IfOk result (λ shown. shown ≡ source_shown source.now) }
-{
-    Ok(Source {
-        name: source.name.clone()?,
-        path: copied_path(&source.path)?,
-        on_disk: source.on_disk,
-    })
-}
-
-fn sources(alloc: Global, sources: &[RecordedSource]) -> Result<Vec<Source>, AllocError>
-    ensures { IfOk result (λ shown. shown.items ≡ map source_shown sources.now) }
-{
-    let mut shown = Vec::with_capacity(alloc, sources.len())?;
-    for source in sources {
-        shown.push(source_copied(source)?)?;
-    }
-    Ok(shown)
-}
-
-fn verified(alloc: Global, most: u64, lines: &[u32]) -> Result<Vec<bool>, AllocError>
-    ensures { IfOk result (λ answers. answers.items ≡ map (λ line. nat_le 1 line && nat_le line most) lines.now) }
-{
-    let mut answers = Vec::new(alloc);
-    for line in lines {
-        answers.push(1 <= *line && *line as u64 <= most)?;
-    }
-    Ok(answers)
-}
-
-fn is_in(span: Span, number: u64) -> bool
-    ensures { result ≡ is_in_span span number }
-{
-    span.from <= number && number < span.to
-}
-
 impl Recorded {
-    ghost use Rattle.std.specs.Prelude.{◌≡◌, [], IfOk, map, option_map, unwrap_or, IsErrOf};
+    ghost use Rattle.std.specs.Prelude.{◌≡◌, [], IfOk, option_map, unwrap_or, IsErrOf};
     ghost use Rattle.std.specs.List.{slice_get};
     ghost use Rattle.std.specs.Option.{IsSome};
     ghost use Rattle.dap_debuggee.specs.Laws.{AnswersQuery, variable_named};
     ghost use Rattle.dap_debuggee.specs.Shown.{window};
-    ghost use Rattle.dap_replay.specs.PrivateHeld.{lines_of_key};
-    ghost use Rattle.dap_replay.specs.Played.{moment_shown, threads_at, variables_held, value_in as value_within, thread_shown, shown_of};
+    ghost use Rattle.dap_replay.specs.Played.{moment_shown, threads_at, variables_held, value_in as value_within, shown_of};
 
     /// The moment that is shown; none before the start and once gone.
     fn moment(&self) -> Option<&Moment>
@@ -133,11 +40,7 @@ impl Recorded {
         ensures { option_map (λ s. s.now) result ≡ (shown_of self.now).scopes frame }
     {
         let moment = self.moment()?;
-        if !is_in(moment.frames, frame) {
-            return None;
-        }
-        let scopes = self.recording.scopes.as_slice().get(frame as usize)?;
-        Some(scopes.as_slice())
+        shown::list_in(moment.frames, self.recording.scopes.as_slice(), frame)
     }
 
     /// The variables of a holder as they are recorded.
@@ -182,7 +85,7 @@ impl Recorded {
         ensures { option_map (λ v. v.now) result ≡ (shown_of self.now).children holder }
     {
         let moment = self.moment()?;
-        if !is_in(moment.holders, holder) {
+        if !shown::is_in(moment.holders, holder) {
             return None;
         }
         self.variables_of(holder)
@@ -191,33 +94,21 @@ impl Recorded {
     pub(crate) fn all_threads(&self, alloc: Global) -> Result<Vec<Thread>, AllocError>
         ensures { IfOk result (λ threads. threads.items ≡ (shown_of self.now).threads) }
     {
-        threads(alloc, self.here())
-    }
-
-    pub(crate) fn all_sources(&self, alloc: Global) -> Result<Vec<Source>, AllocError>
-        ensures { IfOk result (λ sources. sources.items ≡ (shown_of self.now).sources) }
-    {
-        sources(alloc, self.recording.sources.as_slice())
+        shown::threads(alloc, self.here())
     }
 
     pub(crate) fn frames_of(&self, alloc: Global, id: i64) -> Result<Vec<Frame>, DebuggeeFault>
         ensures told { AnswersQuery result (λ frames. frames.items) ((shown_of self.now).frames id) }
         ensures memory { IsErrOf result DebuggeeFault.OutOfMemory → IsSome ((shown_of self.now).frames id) }
     {
-        match thread_of(self.here(), id) {
-            None => Err(DebuggeeFault::Refused),
-            Some(thread) => Ok(frames(alloc, thread.frames.as_slice())?),
-        }
+        shown::frames_of(alloc, self.here(), id)
     }
 
     pub(crate) fn scopes_of(&self, alloc: Global, frame: u64) -> Result<Vec<Scope>, DebuggeeFault>
         ensures told { AnswersQuery result (λ scopes. scopes.items) ((shown_of self.now).scopes frame) }
         ensures memory { IsErrOf result DebuggeeFault.OutOfMemory → IsSome ((shown_of self.now).scopes frame) }
     {
-        match self.scopes_at(frame) {
-            None => Err(DebuggeeFault::Refused),
-            Some(found) => Ok(scopes(alloc, found)?),
-        }
+        shown::scopes_of(alloc, self.scopes_at(frame))
     }
 
     pub(crate) fn children_of(
@@ -236,32 +127,6 @@ impl Recorded {
                 alloc,
                 variables::window(found, start as usize, count as usize),
             )?),
-        }
-    }
-
-    fn recorded_source(&self, index: u32) -> Option<&RecordedSource>
-        ensures { option_map (λ s. s.now) result ≡ slice_get self.now.recording.sources index }
-    {
-        self.recording.sources.as_slice().get(index as usize)
-    }
-
-    pub(crate) fn source_of(&self, index: u32) -> Result<Source, DebuggeeFault>
-        ensures told { AnswersQuery result (λ source. source) (slice_get (shown_of self.now).sources index) }
-        ensures memory { IsErrOf result DebuggeeFault.OutOfMemory → IsSome (slice_get (shown_of self.now).sources index) }
-    {
-        match self.recorded_source(index) {
-            None => Err(DebuggeeFault::Refused),
-            Some(source) => Ok(source_copied(source)?),
-        }
-    }
-
-    pub(crate) fn text_of(&self, index: u32) -> Result<Text, DebuggeeFault>
-        ensures told { AnswersQuery result (λ text. text) ((shown_of self.now).content index) }
-        ensures memory { IsErrOf result DebuggeeFault.OutOfMemory → IsSome ((shown_of self.now).content index) }
-    {
-        match self.recorded_source(index) {
-            None => Err(DebuggeeFault::Refused),
-            Some(source) => Ok(source.text.clone()?),
         }
     }
 
@@ -308,44 +173,4 @@ impl Recorded {
             }),
         }
     }
-
-    /// How many lines a source has; the longest one where several have its path.
-    fn lines_of(&self, source: &SourceKey) -> u64
-        ensures { result ≡ lines_of_key self.now.recording.sources source.now }
-    {
-        match source {
-            SourceKey::Path(path) => self.paths.most_lines(path.as_str()),
-            SourceKey::Reference(0) => 0,
-            SourceKey::Reference(n) => {
-                match self.recording.sources.as_slice().get(*n as usize - 1) {
-                    None => 0,
-                    Some(source) => source.lines,
-                }
-            }
-        }
-    }
-
-    pub(crate) fn verify_all(
-        &self,
-        alloc: Global,
-        source: &SourceKey,
-        lines: &[u32],
-    ) -> Result<Vec<bool>, DebuggeeFault>
-        ensures { AnswersQuery result (λ answers. answers.items) ((shown_of self.now).verify source.now lines.now) }
-    {
-        let most = self.lines_of(source);
-        Ok(verified(alloc, most, lines)?)
-    }
-}
-
-/// The first thread with an id.
-fn thread_of(threads: &[RecordedThread], id: i64) -> Option<&RecordedThread>
-    ensures { option_map (λ t. t.now) result ≡ thread_with id threads.now }
-{
-    for thread in threads {
-        if id == thread.id {
-            return Some(thread);
-        }
-    }
-    None
 }

@@ -17,7 +17,7 @@ impl Recorded {
         ensures { Reads result (verdict_of (json_of bytes.now)) }
     {
         let recording = Recording::read(alloc, bytes)?;
-        Ok(Recorded::of_recording(alloc, recording)?)
+        Ok(Recorded::of_recording(alloc, recording))
     }
 
     /// Sources, and the one moment of a recording over them, both as JSON; not started.
@@ -33,7 +33,7 @@ impl Recorded {
         ensures { Reads result (or_fault (alone_over sources.now moment.now)) }
     {
         let recording = Recording::of_parts(texts, sources, moment)?;
-        Ok(Recorded::of_recording(alloc, recording)?)
+        Ok(Recorded::of_recording(alloc, recording))
     }
 
     /// Another moment over the sources of this one, which both share; not started. It takes time in proportion to the moment alone.
@@ -52,6 +52,6 @@ impl Recorded {
         // For the proof: what holds of the sources.
         self.is_recording();
         let recording = self.recording.with_moment(texts, moment)?;
-        Ok(Recorded::of_both(alloc, recording, self.paths.clone()?))
+        Ok(Recorded::of_recording(alloc, recording))
     }
 }

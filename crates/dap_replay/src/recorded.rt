@@ -5,21 +5,19 @@ ghost use Rattle.std.specs.Prelude.{if◌then◌else◌};
 ghost use Rattle.dap_replay.specs.Moves.{is_forward};
 ghost use Rattle.dap_recording.specs.Recording.{IsRecording};
 
+use crate::moves;
 use crate::moves::{Move, Plan, Reason};
-use crate::paths::Paths;
 use crate::set_lines::SetLines;
 use crate::variables::HolderMap;
-use crate::{moves, paths};
 use dap_command::SourceKey;
 use dap_debuggee::{
     Asked, Assigned, Debuggee, DebuggeeFault, Evaluation, Frame, Happening, How, Scope, Source,
     State, Thread, Variable,
 };
 use dap_json::Text;
-use dap_recording::Recording;
+use dap_recording::{Recording, shown};
 use std::alloc::{AllocError, Global};
 use std::marker::Model;
-use std::sync::Arc;
 
 /// The rest of a run.
 #[derive(Clone, Copy, Debug)]
@@ -64,8 +62,6 @@ pub(crate) enum LastAsked {
 #[derive(Drop)]
 pub struct Recorded {
     pub(crate) recording: Recording,
-    /// How many lines there are under each path of its sources. Debuggees of the same sources share it.
-    pub(crate) paths: Arc<Paths>,
     pub(crate) state: State,
     /// The place of the moment that is shown.
     pub(crate) at: usize,
@@ -81,7 +77,7 @@ pub struct Recorded {
 impl Model for Recorded {
     ghost use Rattle.std.specs.Prelude.{◌<◌, length};
     ghost use Rattle.dap_replay.specs.Played.{Played};
-    ghost use Rattle.dap_replay.specs.PrivateHeld.{run_of, last_of, IsOutputWhole, HasMost, HasRun, KeepHolders};
+    ghost use Rattle.dap_replay.specs.PrivateHeld.{run_of, last_of, IsOutputWhole, HasRun, KeepHolders};
     ghost use Rattle.dap_recording.specs.Recording.{IsRecording};
 
     ghost Value = { Played };
@@ -97,7 +93,7 @@ impl Model for Recorded {
       last = last_of r.recording r.last;
     } };
 
-    ghost invariant = { λ r. IsRecording r.recording × (r.at < length r.recording.moments) × IsOutputWhole r.recording.moments r.going × HasMost r.paths.value.most r.recording.sources × HasRun r.state r.going × KeepHolders r.recording.variables r.changed };
+    ghost invariant = { λ r. IsRecording r.recording × (r.at < length r.recording.moments) × IsOutputWhole r.recording.moments r.going × HasRun r.state r.going × KeepHolders r.recording.variables r.changed };
 }
 
 impl Recorded {
@@ -105,30 +101,18 @@ impl Recorded {
     ghost use Rattle.std.specs.Option.{IsSome};
     ghost use Rattle.dap_replay.specs.Played.{fresh_played, after_start, after_resume, is_untold as is_untold_in};
     ghost use Rattle.dap_recording.specs.Recording.{IsRecording};
-    ghost use Rattle.dap_replay.specs.PrivateHeld.{after_act, HasMost, KeepHolders};
+    ghost use Rattle.dap_replay.specs.PrivateHeld.{after_act, KeepHolders};
     ghost use Rattle.dap_replay.specs.Played.{shown_of};
     ghost use Rattle.dap_replay.specs.ShownNumbers.{ShownCanBeAsked, NamesOneHolder};
     ghost use Rattle.dap_tables.specs.SourceMap.{count, HasNoEmptyList};
 
     /// A recording that is not started.
-    pub(crate) fn of_recording(alloc: Global, recording: Recording) -> Result<Recorded, AllocError>
+    pub(crate) fn of_recording(alloc: Global, recording: Recording) -> Recorded
         requires { IsRecording recording }
-        ensures { IfOk result (λ r. r ≡ fresh_played recording) }
-    {
-        let paths = paths::of_sources(alloc, recording.sources.as_slice())?;
-        let paths = Arc::new(alloc, paths)?;
-        Ok(Recorded::of_both(alloc, recording, paths))
-    }
-
-    /// The same, where the lines under each path are known.
-    pub(crate) fn of_both(alloc: Global, recording: Recording, paths: Arc<Paths>) -> Recorded
-        requires is { IsRecording recording }
-        requires paths { HasMost paths.value.most recording.sources }
         ensures { result ≡ fresh_played recording }
     {
         Recorded {
             recording,
-            paths,
             state: State::NotStarted,
             at: 0,
             going: None,
@@ -176,18 +160,14 @@ impl Recorded {
     pub fn source_count(&self) -> usize
         ensures { result ≡ length (shown_of self.now).sources }
     {
-        self.recording.sources.as_slice().len()
+        self.recording.sources.len()
     }
 
     /// Whether a holder is that of a scope of the recording that was told without its variables.
     pub fn is_untold(&self, holder: u64) -> bool
         ensures { result ≡ is_untold_in self.now holder }
     {
-        self.recording
-            .untold
-            .as_slice()
-            .iter()
-            .any(|other| *other == holder)
+        shown::is_one_of(self.recording.untold.as_slice(), holder)
     }
 
     /// No two scopes or variables have one number of a holder. There is nothing to run.
@@ -400,7 +380,7 @@ impl Debuggee for Recorded {
 
     fn sources(&self, alloc: Global) -> Result<Vec<Source>, AllocError> {
         self.is_recording();
-        self.all_sources(alloc)
+        self.recording.sources.all(alloc)
     }
 
     fn source(&self, _alloc: Global, index: u32) -> Result<Source, DebuggeeFault>
@@ -409,14 +389,14 @@ impl Debuggee for Recorded {
         ensures memory { IsErrOf result DebuggeeFault.OutOfMemory → IsSome (slice_get (shown_of self.now).sources index) }
     {
         self.is_recording();
-        self.source_of(index)
+        self.recording.sources.source(index)
     }
 
     fn content(&self, _alloc: Global, index: u32) -> Result<Text, DebuggeeFault>
         ensures told { AnswersQuery result (λ text. text) ((shown_of self.now).content index) }
         ensures memory { IsErrOf result DebuggeeFault.OutOfMemory → IsSome ((shown_of self.now).content index) }
     {
-        self.text_of(index)
+        self.recording.sources.content(index)
     }
 
     fn verify(
@@ -425,7 +405,7 @@ impl Debuggee for Recorded {
         source: &SourceKey,
         lines: &[u32],
     ) -> Result<Vec<bool>, DebuggeeFault> {
-        self.verify_all(alloc, source, lines)
+        Ok(self.recording.sources.verify(alloc, source, lines)?)
     }
 
     ghost counts = { counts-played };

@@ -40,7 +40,7 @@ fn add_threads(told: &mut String, threads: &[Thread]) -> bool {
 }
 
 /// Frames as objects, names, sources, `-` where there is none, and lines.
-fn add_frames(told: &mut String, frames: &[Frame]) -> bool {
+pub(crate) fn add_frames(told: &mut String, frames: &[Frame]) -> bool {
     for frame in frames {
         let (object, name) = (frame.object, frame.name.as_str());
         let line = frame.line;
@@ -127,7 +127,7 @@ pub(crate) fn add_value<D: Debuggee>(
 }
 
 /// The names of all sources.
-fn add_sources(told: &mut String, sources: &[Source]) -> bool {
+pub(crate) fn add_sources(told: &mut String, sources: &[Source]) -> bool {
     for source in sources {
         if told.push_str(source.name.as_str()).is_err() {
             return false;

@@ -13,7 +13,7 @@ invariant_of-self-2 c =
     let changed = with_value c.args.name.now c.args.text.now c.in-Some.held.now in
     let stored : c.put.new.self ≡ with_variables holder changed c.self.inside.changed =
     c.in_ok-put.ensures.put ∙ ap (λ (xs : List Variable). with_variables holder xs c.self.inside.changed) c.in_ok-changed.ensures in
-    let before = subst (λ (w : Played). KeepHolders w.recording.variables w.changed) c.self.view_is c.self.invariant.5 in
+    let before = subst (λ (w : Played). KeepHolders w.recording.variables w.changed) c.self.view_is c.self.invariant.4 in
     let after = keep-value v holder c.args.name.now c.args.text.now c.in-Some.held.now before (sym c.in-Some.ensures) in
     let inside = subst (λ (w : Played). KeepHolders w.recording.variables (with_variables holder changed w.changed)) (sym c.self.view_is) after in
-    (c.self.invariant.0, c.self.invariant.1, c.self.invariant.2, c.self.invariant.3, c.self.invariant.4, subst (λ (cs : List OfHolder). KeepHolders c.self.inside.recording.variables cs) (sym stored) inside)
+    (c.self.invariant.0, c.self.invariant.1, c.self.invariant.2, c.self.invariant.3, subst (λ (cs : List OfHolder). KeepHolders c.self.inside.recording.variables cs) (sym stored) inside)

@@ -1,0 +1,47 @@
+-- Worked examples of what sources and one moment show, each shown by computation.
+use Rattle.std.proofs.Common.{◌≡◌, ℕ, List, [], ◌∷◌, codes, true, false, Some, None, pos, refl}
+use Rattle.dap_command.specs.declared.source_key.SourceKey.TheVariants.{Path, Reference}
+use Rattle.dap_recording.specs.Recording.{is_moment}
+use Rattle.dap_recording.specs.Snapshot.{MomentAlone, frames_in, scopes_alone, children_alone, is_among, is_in}
+use Rattle.dap_recording.specs.Sources.{text_at, lines_verified}
+use Rattle.dap_recording.specs.declared.recording.RecordedSource.{RecordedSource}
+
+-- ---- two sources of one path
+
+abbrev source : List ℕ → ℕ → RecordedSource
+source text lines = record { name = codes "a"; path = Some (codes "/a"); text = text; on_disk = false; lines = lines }
+
+abbrev two : List RecordedSource
+two = source (codes "x\ny") 2 ∷ source (codes "z") 1 ∷ []
+
+texts : (text_at two 0 ≡ Some (codes "x\ny")) × (text_at two 1 ≡ Some (codes "z")) × (text_at two 2 ≡ None)
+texts = (refl, refl, refl)
+
+-- a path has the lines of its longest source
+lines : (lines_verified two (Path (codes "/a")) (0 ∷ 1 ∷ 2 ∷ 3 ∷ []) ≡ false ∷ true ∷ true ∷ false ∷ []) × (lines_verified two (Path (codes "/b")) (1 ∷ []) ≡ false ∷ []) × (lines_verified two (Reference 2) (1 ∷ 2 ∷ []) ≡ true ∷ false ∷ []) × (lines_verified two (Reference 0) (1 ∷ []) ≡ false ∷ []) × (lines_verified two (Reference 3) (1 ∷ []) ≡ false ∷ [])
+lines = (refl, refl, refl, refl, refl)
+
+-- ---- a moment of one frame, with a scope that came without its variables and one that has x
+
+abbrev alone : MomentAlone
+alone = record {
+  moment = record {
+    threads = record { id = pos 1; name = codes "main"; frames = record { object = 0; name = codes "f"; source = Some 0; line = 1 } ∷ [] } ∷ [];
+    thread = 0;
+    output = [];
+    waits = false;
+    stop = None;
+    frames = record { from = 0; to = 1 };
+    holders = record { from = 0; to = 2 };
+  };
+  scopes = (record { name = codes "Locals"; holder = 0 } ∷ record { name = codes "Globals"; holder = 1 } ∷ []) ∷ [];
+  variables = [] ∷ (record { name = codes "x"; value = codes "1"; holder = None } ∷ []) ∷ [];
+  untold = 0 ∷ [];
+  sources = 1;
+}
+
+frames : (frames_in alone.moment.threads (pos 1) ≡ Some (record { object = 0; name = codes "f"; source = Some 0; line = 1 } ∷ [])) × (frames_in alone.moment.threads (pos 2) ≡ None) × (is_moment 1 alone.moment ≡ true) × (is_moment 0 alone.moment ≡ false)
+frames = (refl, refl, refl, refl)
+
+holders : (scopes_alone alone 1 ≡ None) × (children_alone alone 0 ≡ Some []) × (children_alone alone 1 ≡ Some (record { name = codes "x"; value = codes "1"; holder = None } ∷ [])) × (children_alone alone 2 ≡ None) × (is_among 0 alone.untold ≡ true) × (is_among 1 alone.untold ≡ false) × (is_in alone.moment.holders 2 ≡ false)
+holders = (refl, refl, refl, refl, refl, refl, refl)

@@ -1,6 +1,0 @@
-use Rattle.std.proofs.Common.{◌≡◌, take}
-use Rattle.dap_replay.proofs.queries.scopes.Given as goal
-
--- the copy so far is what stands there so far
-abbrev pub invariant-loop-scope : goal.invariant-loop-scope
-invariant-loop-scope l = l.copy.items ≡ take l.scope-index l.scopes

@@ -1,6 +1,0 @@
-use Rattle.std.proofs.Common.{◌≡◌, ◌&&◌, nat_le, take, map}
-use Rattle.dap_replay.proofs.queries.verified.Given as goal
-
--- the answers so far are those of the lines so far
-abbrev pub invariant-loop-line : goal.invariant-loop-line
-invariant-loop-line l = l.answers.items ≡ map (λ line. nat_le 1 line && nat_le line l.most) (take l.line-index l.lines)
