@@ -1,6 +1,7 @@
 mod FaultExamples
 mod FileExamples
 pub mod WholeFiles
+pub mod FaultTexts
 pub mod ListedTexts
 pub mod Walked
 mod HintExamples

@@ -101,7 +101,8 @@ fn push_fault(
     if !explained {
         return Ok(());
     }
-    push_sentence_of(alloc, text, line, fault)
+    push_sentence_of(alloc, text, line, fault)?;
+    Ok(())
 }
 
 /// Appends what is printed of a line; nothing where it breaks no rule.

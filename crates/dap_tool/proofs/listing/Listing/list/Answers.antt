@@ -15,15 +15,15 @@ returns-clause-printed c = λ lines line is so.
     let of_line = text_told options.explained told.found.number told.reason line told.found.broken in
     printed_more options lines line told is old _ so
     (c.in_ok-push_if.ensures line (given options lines line told is) ∙ ap (λ b. if b then old.text.items ++ of_line else old.text.items) c.is_shown-shown.ensures)
-    (c.counted.ensures ∙ ap (λ b. if b then old.count + 1 else old.count) c.is_some.ensures)
-    (c.after.ensures ∙ ap (λ b. after_by options.any_seq Client b breaks.result old.client) c.are_same.ensures ∙ ap (λ b. after_by options.any_seq Client (same_side Client told.found.side) b old.client) breaks.ensures)
-    (c.after-2.ensures ∙ ap (λ b. after_by options.any_seq Adapter b breaks.result old.adapter) c.are_same-2.ensures ∙ ap (λ b. after_by options.any_seq Adapter (same_side Adapter told.found.side) b old.adapter) breaks.ensures)
+    (c.counted-self.ensures ∙ ap (λ b. if b then old.count + 1 else old.count) c.is_some.ensures)
+    (c.after-self.ensures ∙ ap (λ b. after_by options.any_seq Client b breaks.result old.client) c.are_same.ensures ∙ ap (λ b. after_by options.any_seq Client (same_side Client told.found.side) b old.client) breaks.ensures)
+    (c.after-self-2.ensures ∙ ap (λ b. after_by options.any_seq Adapter b breaks.result old.adapter) c.are_same-2.ensures ∙ ap (λ b. after_by options.any_seq Adapter (same_side Adapter told.found.side) b old.adapter) breaks.ensures)
 
 pub returns-clause-few : goal.returns-clause-few
 returns-clause-few c = λ n few.
     let any_seq = c.args.options.any_seq in
     record {
-      count = count_few c.is_some.result c.args.self.now.count c.counted.result n c.counted.ensures few.count;
-      client = side_few any_seq Client c.are_same.result c.is_of_rule_1-breaks.result c.args.self.now.client c.after.result n c.after.ensures few.client;
-      adapter = side_few any_seq Adapter c.are_same-2.result c.is_of_rule_1-breaks.result c.args.self.now.adapter c.after-2.result n c.after-2.ensures few.adapter;
+      count = count_few c.is_some.result c.args.self.now.count c.counted-self.result n c.counted-self.ensures few.count;
+      client = side_few any_seq Client c.are_same.result c.is_of_rule_1-breaks.result c.args.self.now.client c.after-self.result n c.after-self.ensures few.client;
+      adapter = side_few any_seq Adapter c.are_same-2.result c.is_of_rule_1-breaks.result c.args.self.now.adapter c.after-self-2.result n c.after-self-2.ensures few.adapter;
     }

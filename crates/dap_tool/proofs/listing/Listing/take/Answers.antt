@@ -1,5 +1,4 @@
 use Rattle.std.proofs.Common.{◌≡◌, ◌<◌, ◌+◌, ◌∷◌, ◌++◌, [], length, ℕ, List, Option, subst, sym, ap, arith}
-use Rattle.std.specs.Prelude.{IfSome}
 use Rattle.dap_explain.specs.Explained.{HasNoted, TakesAndTells, noted_by}
 use Rattle.dap_explain.specs.declared.reasoning.ExplainedChecker.{ExplainedChecker}
 use Rattle.dap_explain.specs.declared.told.LineTold.{LineTold}
@@ -41,6 +40,3 @@ returns-in-Ok-clause-few c =
     let listed = c.in-Ok.ensures in
     let later = listed.few (noted_by c.args.self.now.checker + 1) (record { count = few.count; client = few.client; adapter = few.adapter }) in
     subst (λ (checker : ExplainedChecker). AreFew (noted_by checker + 1) c.list.new.self) (sym listed.same) (subst (λ n. AreFew (n + 1) c.list.new.self) (sym one) later)
-
-pub returns-in-Err-clause-refused : goal.returns-in-Err-clause-refused
-returns-in-Err-clause-refused c = (tt, subst (λ (o : Option LineTold). IfSome o (λ line. 0 < length c.args.text.now)) c.in-Some.is c.in_ok-line.ensures.bytes)
