@@ -15,7 +15,8 @@ use Rattle.dap_history.specs.History.{Out}
 use Rattle.dap_call.specs.PlainCall.{is_plain_call}
 use Rattle.dap_call.specs.declared.call.Call.{Call}
 use Rattle.dap_plan.specs.Handling.{turns}
-use Rattle.dap_plan.specs.Carried.{CarriedOut}
+use Rattle.dap_debuggee.specs.Shown.{Shown}
+use Rattle.dap_plan.specs.Carried.{CarriedOut, Goes}
 use Rattle.dap_plan.specs.Plan.{Plan, Made, written_by}
 use Rattle.dap_outbox.specs.Draft.{bytes_of}
 use Rattle.dap_plan.specs.Polling.{polls}
