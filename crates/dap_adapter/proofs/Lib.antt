@@ -2,6 +2,7 @@ pub mod Adapting
 pub mod Appending
 pub mod BodyLemmas
 pub mod Ending
+pub mod FirstPoll
 pub mod Knowing
 pub mod Leading
 pub mod OneByOne

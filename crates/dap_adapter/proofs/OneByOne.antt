@@ -10,6 +10,7 @@ use Rattle.dap_frame.specs.declared.limits.Bounds.{Bounds}
 use Rattle.dap_plan.specs.Carried.{Goes}
 use Rattle.dap_plan.specs.SessionState.{SessionState}
 use Rattle.dap_adapter.specs.AdapterState.{AdapterState, state_of}
+use Rattle.dap_adapter.specs.Calls.{Exchanges}
 use Rattle.dap_adapter.specs.Bodies.{IsBetween, BodiesComeOneByOne}
 use Rattle.dap_adapter.specs.Parts.{StandsThere, RunsOn, AnswersPiece, PollsOn}
 use Rattle.dap_adapter.specs.PrivateStreams.{StreamLaws}
@@ -88,9 +89,20 @@ fresh_between e laws stands = record {
   none_held = (laws.one [] stands.received.bodies [] stands.received.rest [] (subst (λ (b : Bounds). Split b [] stands.received.bodies stands.received.rest) stands.bounds stands.received.stream.split) laws.empty).1;
 }
 
+exchanged_between : {D : Type 0} (shown : D → Shown) (old new : AdapterState D) → IsBetween old → Exchanges shown old new → IsBetween new
+exchanged_between {D} shown old new at e =
+    let x = at.stands in
+    subst (λ (a : AdapterState D). IsBetween a) (sym e.all_else) (record {
+      used = at.used;
+      history = at.history;
+      stands = record { no_fault = x.no_fault; received = x.received; session = x.session; within = x.within; bounds = x.bounds };
+      none_held = at.none_held;
+    })
+
 pub one_by_one : {D : Type 0} (shown : D → Shown) (follows : Goes D) → WrittenIsReadAgain → EachStreamHasOneSplit → FrameHasNoFrameWithin → BodiesComeOneByOne shown follows
 one_by_one shown follows written one within = record {
   fresh = λ e range stands. fresh_between e (stream_laws e.session.limits range written one within) stands;
   answered = λ old new body before after ended at range fits going a. body_taken shown follows one old at (stream_laws old.session.limits range written one within) body fits going new before after ended a;
   told = λ old new before after at polls. told_between shown follows one old at new before after polls;
+  exchanged = λ old new at e. exchanged_between shown old new at e;
 }

@@ -9,6 +9,8 @@ use Rattle.dap_decision.specs.declared.phase.Phase.TheVariants.{Running, Stopped
 use Rattle.dap_plan.specs.Carried.{Goes}
 use Rattle.dap_plan.specs.Plan.{at_once, no_change}
 use Rattle.dap_plan.specs.Session.{fresh_session}
+use Rattle.dap_adapter.specs.AdapterState.{AdapterState}
+use Rattle.dap_adapter.specs.Parts.{InTurn, none_made, exchanged}
 use Rattle.dap_adapter.specs.Run.{to_take, to_poll, after_poll, has_ended, fresh_state, Run, begins, delivers, idles, sees}
 
 -- ---- when the debuggee is asked no more
@@ -57,3 +59,13 @@ module _ {D : Type 0} (shown : D → Shown) (follows : Goes D) (limits : Setting
       refl)
       (record { made = none; carried = (refl, refl); after = refl })
       (omega arith)
+
+-- ---- calls in turn
+
+module _ {D : Type 0} (shown : D → Shown) (follows : Goes D) (a : AdapterState D) where
+  -- a host speaks twice, and no message is made
+  host_speaks : (d e : D) → shown d ≡ shown a.debuggee → shown e ≡ shown d → InTurn shown follows a [] [] (record a { debuggee = e })
+  host_speaks d e first second =
+      let b : AdapterState D = record a { debuggee = d } in
+      let c : AdapterState D = record a { debuggee = e } in
+      exchanged [] [] b c (exchanged [] [] a b none_made (record { shows_the_same = first; all_else = refl })) (record { shows_the_same = second; all_else = refl })

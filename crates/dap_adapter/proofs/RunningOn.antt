@@ -18,8 +18,8 @@ use Rattle.dap_outbox.specs.Draft.{bytes_of}
 use Rattle.dap_plan.specs.Session.{Session}
 use Rattle.dap_plan.specs.SessionState.{SessionState}
 use Rattle.dap_adapter.specs.PrivateServing.{next_if}
-use Rattle.dap_adapter.specs.Parts.{MayBeHeld, RunsOn, PartsJoin, InTurn, none_made, answered, told as told_since, StandsInTurn, CallsInTurnAddUp}
-use Rattle.dap_adapter.specs.Calls.{Handled, Saw, Delivers, Waits, Takes}
+use Rattle.dap_adapter.specs.Parts.{MayBeHeld, RunsOn, PartsJoin, InTurn, none_made, answered, told as told_since, exchanged, StandsInTurn, CallsInTurnAddUp}
+use Rattle.dap_adapter.specs.Calls.{Handled, Saw, Delivers, Waits, Takes, Exchanges}
 use Rattle.dap_adapter.specs.AdapterState.{AdapterState, state_of}
 use Rattle.dap_adapter.specs.StandsFor.{StandsFor}
 use Rattle.dap_adapter.specs.Run.{Next, to_take, to_turn, to_poll, has_ended, after_poll, Run, begins, handles as one_handled, idles, sees, delivers}
@@ -231,6 +231,13 @@ module _ {D : Type 0} (shown : D → Shown) (follows : Goes D) where
   hands_on one e f piece used bytes (Some m) going x none limits =
       record { now = written_by e.session x.step.session.made; runs_on = took one e f piece used bytes m going x none limits; bytes_are = x.step.bytes_are }
 
+-- ---- an exchange
+
+-- no call that an adapter stands for is about the debuggee
+pub stands_exchanged : {D : Type 0} (shown : D → Shown) (old new : AdapterState D) (s : List ℕ) (h : List Entry) → Exchanges shown old new → StandsFor old s h → StandsFor new s h
+stands_exchanged {D} shown old new s h e x =
+    subst (λ (a : AdapterState D). StandsFor a s h) (sym e.all_else) (record { no_fault = x.no_fault; received = x.received; session = x.session; within = x.within; bounds = x.bounds })
+
 -- ---- calls in turn
 
 module _ {D : Type 0} (shown : D → Shown) (follows : Goes D) where
@@ -250,6 +257,17 @@ module _ {D : Type 0} (shown : D → Shown) (follows : Goes D) where
   record InTurnLimits (old new : AdapterState D) (s : List ℕ) (h : List Entry) (outs : List Message) : Type 0 where
     pub stands : StandsInTurn old new s h outs
     pub limits : new.session.limits ≡ old.session.limits
+
+  exchanged_more : (old m n : AdapterState D) (s : List ℕ) (h : List Entry) (outs : List Message) → InTurnLimits old m s h outs → Exchanges shown m n → InTurnLimits old n s h outs
+  exchanged_more old m n s h outs x e = record {
+    stands = record {
+      more = x.stands.more;
+      stands = stands_exchanged shown m n s (h ++ x.stands.more) e x.stands.stands;
+      went = x.stands.went;
+      reads_back = x.stands.reads_back;
+    };
+    limits = ap (λ (a : AdapterState D). a.session.limits) e.all_else ∙ x.limits;
+  }
 
   in_turn : (old : AdapterState D) (s : List ℕ) (h : List Entry) → StandsFor old s h → (used : List ℕ) (outs : List Message) (new : AdapterState D) → InTurn shown follows old used outs new → InTurnLimits old new (s ++ used) h outs
   in_turn old s h x _ _ _ none_made = record {
@@ -273,6 +291,8 @@ module _ {D : Type 0} (shown : D → Shown) (follows : Goes D) where
         stands = one_more old m n s used [] used h outs nows (to_poll 0) there.stands there.limits r (append-nil (s ++ used));
         limits = r.limits ∙ there.limits;
       }
+
+  in_turn old s h x _ _ _ (exchanged used outs m n y e) = exchanged_more old m n (s ++ used) h outs (in_turn old s h x used outs m y) e
 
   pub calls_add_up : CallsInTurnAddUp shown follows
   calls_add_up old new s used h outs y x = (in_turn old s h x used outs new y).stands

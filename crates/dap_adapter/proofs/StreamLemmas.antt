@@ -27,7 +27,7 @@ pub same_front : {A : Type 0} (xs ys zs : List A) → xs ++ ys ≡ xs ++ zs → 
 same_front [] ys zs e = e
 same_front (x ∷ xs) ys zs e = same_front xs ys zs cc
 
-not_empty : {A : Type 0} (xs : List A) (x : A) → xs ++ x ∷ [] ≡ [] → ⊥
+pub not_empty : {A : Type 0} (xs : List A) (x : A) → xs ++ x ∷ [] ≡ [] → ⊥
 not_empty [] x e = cc e
 not_empty (y ∷ ys) x e = cc e
 

@@ -113,6 +113,13 @@ PollRefused follows old OutOfMemory new = has_debuggee old.session.phase ≡ tru
 PollRefused follows old SeqExhausted new = HasTooMany follows (polls old.session) (state_of old) (state_of new)
 PollRefused follows old fault new = ⊥
 
+-- ---- exchange
+
+-- What a host told the debuggee and what it has asked of the host are exchanged: it shows the same, and all else is the same.
+pub record Exchanges {D : Type 0} (shown : D → Shown) (old new : AdapterState D) : Type 0 where
+  pub shows_the_same : shown new.debuggee ≡ shown old.debuggee
+  pub all_else : new ≡ record old { debuggee = new.debuggee }
+
 -- ---- what holds between calls
 
 -- what holds of every adapter

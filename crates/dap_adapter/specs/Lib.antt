@@ -5,6 +5,7 @@ pub mod PrivateReceives
 pub mod Run
 pub mod Parts
 pub mod Bodies
+pub mod Polled
 pub mod Served
 pub mod PrivateServing
 pub mod PrivateStreams

@@ -12,7 +12,7 @@ use Rattle.dap_plan.specs.Session.{Session}
 use Rattle.dap_plan.specs.declared.fault.AdapterFault.{AdapterFault}
 use Rattle.dap_plan.specs.declared.fault.AdapterFault.TheVariants.{OutOfMemory}
 use Rattle.dap_adapter.specs.AdapterState.{AdapterState, state_of}
-use Rattle.dap_adapter.specs.Calls.{Delivers, Handled, Saw, TakeRefused, TurnRefused, PollRefused}
+use Rattle.dap_adapter.specs.Calls.{Delivers, Handled, Saw, Exchanges, TakeRefused, TurnRefused, PollRefused}
 use Rattle.dap_adapter.specs.Run.{Next, to_take, to_turn, to_poll, has_ended, Run}
 use Rattle.dap_adapter.specs.StandsFor.{StandsFor}
 
@@ -70,11 +70,12 @@ pub record PollsOn {D : Type 0} (shown : D → Shown) (follows : Goes D) (old : 
   pub none_come : runs_on.bodies ≡ []
   pub appended : after ≡ before ++ bytes_of outs
 
--- calls of a program with a loop of its own, `answer` and `tell` in any order, over these bytes of the client, which append these messages
+-- calls of a program with a loop of its own, `answer`, `tell` and `exchange` in any order, over these bytes of the client, which append these messages
 pub data InTurn {D : Type 0} (shown : D → Shown) (follows : Goes D) (old : AdapterState D) : List ℕ → List Message → AdapterState D → Type 0 where
   none_made : InTurn shown follows old [] [] old
   answered : (s used : List ℕ) (outs nows : List Message) (m n : AdapterState D) → InTurn shown follows old s outs m → RunsOn shown follows m to_take used nows n to_take → InTurn shown follows old (s ++ used) (outs ++ nows) n
   told : (s : List ℕ) (outs nows : List Message) (m n : AdapterState D) → InTurn shown follows old s outs m → RunsOn shown follows m (to_poll 0) [] nows n to_take → InTurn shown follows old s (outs ++ nows) n
+  exchanged : (s : List ℕ) (outs : List Message) (m n : AdapterState D) → InTurn shown follows old s outs m → Exchanges shown m n → InTurn shown follows old s outs n
 
 -- what an adapter stands for after them
 pub record StandsInTurn {D : Type 0} (old new : AdapterState D) (s : List ℕ) (h : List Entry) (outs : List Message) : Type 0 where

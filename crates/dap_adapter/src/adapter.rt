@@ -5,7 +5,7 @@ ghost use Rattle.dap_frame.specs.Ends.{EndsWith};
 ghost use Rattle.dap_frame.specs.Intake.{StandsFor as StandsForStream};
 ghost use Rattle.dap_frame.specs.declared.frames.End.{End};
 ghost use Rattle.dap_plan.specs.declared.fault.AdapterFault.{AdapterFault};
-ghost use Rattle.dap_adapter.specs.Calls.{TakeRefused};
+ghost use Rattle.dap_adapter.specs.Calls.{Exchanges, TakeRefused};
 ghost use Rattle.dap_adapter.specs.PrivateReceives.{HasReceived, IsBy};
 ghost use Rattle.dap_reader.specs.declared.fault.ReadFault.{ReadFault};
 ghost use Rattle.std.specs.Option.{option_copied};
@@ -17,7 +17,7 @@ ghost use Rattle.dap_decision.specs.Table.{is_phase};
 ghost use Rattle.dap_decision.specs.declared.phase.Phase.TheVariants.{Asked};
 
 use crate::taken::{Came, Taken, Turned};
-use dap_debuggee::Debuggee;
+use dap_debuggee::{Debuggee, HasMail};
 use dap_envelope::laws::read_is_in_range;
 use dap_frame::{End, Limits};
 use dap_history::laws::histories_grow;
@@ -373,6 +373,18 @@ impl<D: Debuggee + Drop> Adapter<D> {
     {
         self.reader.close();
         self.fault = Some(fault);
+    }
+}
+
+impl<D: HasMail + Drop> Adapter<D> {
+    /// Exchanges the debuggee's mail: it has what is given then, and what it had is handed out. A host of a debuggee does so
+    /// between two calls, also after a fault. The debuggee is asked nothing, nothing is written, and no memory is taken.
+    pub fn exchange(&mut self, given: D::Mail) -> D::Mail
+        ensures out { result ≡ D.mail self.old.debuggee }
+        ensures put { self.new.debuggee ≡ D.with_mail given self.old.debuggee }
+        ensures exchanges { Exchanges D.shown self.old self.new }
+    {
+        self.session.exchange(given)
     }
 }
 

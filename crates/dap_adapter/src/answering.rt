@@ -1,6 +1,7 @@
 //! An adapter in a program with a loop of its own, as each debugger and each editor has: a piece at a time.
 ghost use Rattle.std.specs.Prelude.{◌≡◌, List, [], ◌++◌, true, false, IfOk, IfErr, OnOk, OnErr, IfSome, IsOk, Some, None, Ok, Err};
 ghost use Rattle.dap_adapter.specs.Parts.{AnswersPiece, PollsOn, StopsAfter, PartsJoin, CallsInTurnAddUp};
+ghost use Rattle.dap_adapter.specs.Polled.{TellPollsFirst};
 ghost use Rattle.dap_adapter.specs.PrivateServing.{adapter_fault_of};
 ghost use Rattle.dap_adapter.specs.Run.{to_take, to_poll, has_ended};
 ghost use Rattle.dap_plan.specs.Polling.{has_debuggee};
@@ -153,4 +154,10 @@ pub fn parts_of_a_run_join<D: Debuggee>()
 /// limit on bodies. So each response among them answers one request that was unanswered.
 pub fn calls_in_turn_add_up<D: Debuggee>()
     ensures { CallsInTurnAddUp D.shown D.follows }
+{}
+
+/// A law: `tell` polls the debuggee, and again only where the poll before told something. What it appends is what the first
+/// poll told, and then what the others did.
+pub fn tell_polls_first<D: Debuggee>()
+    ensures { TellPollsFirst D.shown D.follows }
 {}

@@ -16,7 +16,7 @@ mod serving;
 mod taken;
 
 pub use adapter::Adapter;
-pub use answering::{calls_in_turn_add_up, parts_of_a_run_join};
+pub use answering::{calls_in_turn_add_up, parts_of_a_run_join, tell_polls_first};
 pub use bodies::{bodies_come_one_by_one, first_body};
 pub use dap_plan::AdapterFault;
 pub use dap_session::{Options, Phase};

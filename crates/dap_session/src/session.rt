@@ -10,7 +10,7 @@ ghost use Rattle.dap_plan.specs.Session.{fresh_session, own_requests, numbers_of
 ghost use Rattle.dap_debuggee.specs.Laws.{is_short};
 ghost use Rattle.dap_debuggee.specs.Shown.{to_start, to_resume, to_pause, to_poll, to_end, done, happened};
 
-use dap_debuggee::{Debuggee, DebuggeeFault, Happening, How};
+use dap_debuggee::{Debuggee, DebuggeeFault, Happening, HasMail, How};
 use dap_decision::Phase;
 use dap_frame::Limits;
 use dap_outbox::Outbox;
@@ -323,6 +323,16 @@ impl<D: Debuggee + Drop> Session<D> {
         ensures session { self.new.session ≡ self.old.session }
     {
         self.debuggee.poll(alloc)
+    }
+}
+
+impl<D: HasMail + Drop> Session<D> {
+    /// Exchanges the debuggee's mail: it has what is given then, and what it had is handed out. It takes no memory.
+    pub fn exchange(&mut self, given: D::Mail) -> D::Mail
+        ensures out { result ≡ D.mail self.old.debuggee }
+        ensures put { self.new ≡ record self.old { debuggee = D.with_mail given self.old.debuggee } }
+    {
+        self.debuggee.exchange(given)
     }
 }
 

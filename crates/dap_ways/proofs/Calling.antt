@@ -2,7 +2,7 @@
 use Rattle.std.proofs.Common.{◌≡◌, ℕ, List, [], ◌∷◌, ◌++◌, drop, Option, None, refl, sym, ap, ◌∙◌, subst}
 use Rattle.std.specs.Prelude.{IsTrue, Result, Ok, Err, IfOk, OnOk}
 use Rattle.dap_adapter.specs.AdapterState.{AdapterState}
-use Rattle.dap_adapter.specs.Calls.{Takes, Handled, Saw, TurnGives}
+use Rattle.dap_adapter.specs.Calls.{Takes, Handled, Saw, Exchanges, TurnGives}
 use Rattle.dap_adapter.specs.declared.taken.Taken.{Taken}
 use Rattle.dap_adapter.specs.declared.taken.Turned.{Turned}
 use Rattle.dap_adapter.specs.declared.taken.Turned.TheVariants.{Idle, Done}
@@ -21,7 +21,7 @@ use Rattle.dap_envelope.specs.ReadBack.{ReadsBack}
 use Rattle.dap_call.specs.declared.call.Call.{Call}
 use Rattle.dap_envelope.specs.declared.message.Message.{Message}
 use Rattle.dap_plan.specs.Carried.{Goes}
-use Rattle.dap_ways.specs.ByteWorld.{ByteWorld, ByteStep, by_sending, by_answering, by_taking_up, by_taking_down, by_turning, by_polling, client_wrote, adapter_wrote}
+use Rattle.dap_ways.specs.ByteWorld.{ByteWorld, ByteStep, by_sending, by_answering, by_taking_up, by_taking_down, by_turning, by_polling, by_exchanging, client_wrote, adapter_wrote}
 use Rattle.dap_ways.specs.Steps.{ClientSteps, ClientStepsOver, AdapterSteps, AdapterStepsOver, TurnSteps}
 
 module _ {D : Type 0} (shown : D → Shown) (follows : Goes D) where
@@ -85,6 +85,12 @@ module _ {D : Type 0} (shown : D → Shown) (follows : Goes D) where
       let v : ByteWorld D = record w { adapter = old } in
       let step : ByteStep shown follows v (adapter_wrote new bytes v) = by_polling (record { bytes = bytes; after = new; saw = saw; limits = limits; is = refl }) in
       subst (λ (z : ByteWorld D). ByteStep shown follows z (adapter_wrote new bytes z)) (with-adapter w old e) step
+
+  pub exchange-steps : (old new : AdapterState D) → Exchanges shown old new → AdapterSteps shown follows old [] new
+  exchange-steps old new exchanges = λ w e.
+      let v : ByteWorld D = record w { adapter = old } in
+      let step : ByteStep shown follows v (adapter_wrote new [] v) = by_exchanging (record { after = new; exchanges = exchanges; is = refl }) in
+      subst (λ (z : ByteWorld D). ByteStep shown follows z (adapter_wrote new [] z)) (with-adapter w old e) step
 
   -- ---- of what a call answered
 

@@ -2,7 +2,7 @@
 use Rattle.std.proofs.Common.{◌≡◌, ℕ, ◌+◌, List, [], ◌∷◌, ◌++◌, take, drop, map, Bool, true, false, Option, Some, None, refl, sym, ap, ◌∙◌, subst, append_assoc, append-nil}
 use Rattle.std.specs.Prelude.{is_some}
 use Rattle.dap_adapter.specs.AdapterState.{AdapterState, state_of}
-use Rattle.dap_adapter.specs.Calls.{Takes, Delivers, Waits, Step as CallStep}
+use Rattle.dap_adapter.specs.Calls.{Takes, Delivers, Waits, Exchanges as AdapterExchanges, Step as CallStep}
 use Rattle.dap_adapter.specs.StandsFor.{StandsFor}
 use Rattle.dap_check.specs.declared.line.Side.TheVariants.{Client, Adapter}
 use Rattle.dap_client.specs.Calls.{Takes as ClientTakes, Delivers as ClientDelivers, Waits as ClientWaits}
@@ -32,7 +32,7 @@ use Rattle.dap_plan.specs.Polling.{polls}
 use Rattle.dap_plan.specs.Session.{Session as AdapterSession, fresh_session as fresh_adapter}
 use Rattle.dap_plan.specs.SessionState.{SessionState}
 use Rattle.dap_world.specs.Moves.{MovesInOrder}
-use Rattle.dap_world.specs.World.{World, Said, said_by, client_said, adapter_said, Step, Schedule, starts, goes, by_sending, by_answering, by_coming_up, by_coming_down, by_turning, by_polling}
+use Rattle.dap_world.specs.World.{World, Said, said_by, client_said, adapter_said, Step, Schedule, starts, goes, by_sending, by_answering, by_coming_up, by_coming_down, by_turning, by_polling, by_exchanging}
 use Rattle.dap_ways.specs.Agreement.{IsOneOfMessages}
 use Rattle.dap_ways.specs.ByteWorld as bytes
 use Rattle.dap_ways.specs.ByteWorld.{ByteWorld, client_wrote, adapter_wrote, IsFreshClient, IsFreshAdapter, ByteStep, ByteSchedule}
@@ -386,6 +386,35 @@ module _ {D : Type 0} (split : EachStreamHasOneSplit) (moves : MovesInOrder) (sh
         within = h.within;
       })))
 
+  -- ---- the debuggee's mail is exchanged
+
+  exchanges : (old : ByteWorld D) (after : AdapterState D) → AdapterExchanges shown old.adapter after → Is old → Is (adapter_wrote after [] old)
+  exchanges old after e g =
+      let k = g.matches in
+      let x = k.adapter in
+      let a : AdapterState D = record old.adapter { debuggee = after.debuggee } in
+      let w : ByteWorld D = adapter_wrote a [] old in
+      let is : Is w =
+        is-one w g.up g.down g.said
+        (goes (with_messages old g.up g.down g.said) (with_messages w g.up g.down g.said) g.schedule (by_exchanging (record { shows_the_same = e.shows_the_same; all_else = refl }))) (record {
+          adapter_used = k.adapter_used;
+          adapter_history = k.adapter_history;
+          adapter = record { no_fault = x.no_fault; received = x.received; session = x.session; within = x.within; bounds = x.bounds };
+          adapter_limits = k.adapter_limits;
+          client_used = k.client_used;
+          client_history = k.client_history;
+          client = k.client;
+          client_limits = k.client_limits;
+          up_is = k.up_is;
+          down_is = subst (λ (z : List ℕ). AreUnderWay limits old.client.intake k.client_used z (ins_of k.client_history) g.down) (sym (append-nil old.down)) k.down_is;
+          up_said = k.up_said;
+          down_said = k.down_said;
+          client_said = k.client_said;
+          adapter_said = k.adapter_said;
+          written_is = append-nil old.written ∙ k.written_is;
+        }) in
+      subst (λ (z : AdapterState D). Is (adapter_wrote z [] old)) (sym e.all_else) is
+
   -- ---- any step, and any schedule
 
   steps : (old new : ByteWorld D) → ByteStep shown follows old new → Is old → Is new
@@ -395,6 +424,7 @@ module _ {D : Type 0} (split : EachStreamHasOneSplit) (moves : MovesInOrder) (sh
   steps old new (bytes.by_taking_down t) g = subst Is (sym t.is) (client-takes old t.piece t.later t.front t.got t.got.delivered t.after t.takes t.limits g)
   steps old new (bytes.by_turning t) g = turns old new t g
   steps old new (bytes.by_polling t) g = polls_once old new t g
+  steps old new (bytes.by_exchanging t) g = subst Is (sym t.is) (exchanges old t.after t.exchanges g)
 
   pub is-one-of-messages : (w : ByteWorld D) → ByteSchedule shown follows limits debuggee w → Is w
   is-one-of-messages _ (bytes.starts c a fc fa) = begins c a fc fa

@@ -3,7 +3,7 @@
 use Rattle.std.specs.Prelude.{◌≡◌, ℕ, List, [], ◌∷◌, ◌++◌, drop, map, Option, None, IsTrue}
 use Rattle.std.specs.List.{flat_map}
 use Rattle.dap_adapter.specs.AdapterState.{AdapterState}
-use Rattle.dap_adapter.specs.Calls.{Takes, Handled, Saw}
+use Rattle.dap_adapter.specs.Calls.{Takes, Handled, Saw, Exchanges as AdapterExchanges}
 use Rattle.dap_adapter.specs.StandsFor.{StandsFor}
 use Rattle.dap_check.specs.declared.line.Side.{Side}
 use Rattle.dap_check.specs.declared.line.Side.TheVariants.{Client, Adapter}
@@ -134,6 +134,12 @@ pub record Polls {D : Type 0} (follows : Goes D) (old new : ByteWorld D) : Type 
   pub limits : after.session.limits ≡ old.adapter.session.limits
   pub is : new ≡ adapter_wrote after bytes old
 
+-- `Adapter::exchange`, which writes nothing
+pub record Exchanges {D : Type 0} (shown : D → Shown) (old new : ByteWorld D) : Type 0 where
+  pub after : AdapterState D
+  pub exchanges : AdapterExchanges shown old.adapter after
+  pub is : new ≡ adapter_wrote after [] old
+
 pub data ByteStep {D : Type 0} (shown : D → Shown) (follows : Goes D) (old new : ByteWorld D) : Type 0 where
   by_sending : (call : Call) → Sends call old new → ByteStep shown follows old new
   by_answering : (request_seq : ℕ) (terminal : Terminal) → Answers request_seq terminal old new → ByteStep shown follows old new
@@ -141,6 +147,7 @@ pub data ByteStep {D : Type 0} (shown : D → Shown) (follows : Goes D) (old new
   by_taking_down : ClientTakesPiece old new → ByteStep shown follows old new
   by_turning : Turns shown follows old new → ByteStep shown follows old new
   by_polling : Polls follows old new → ByteStep shown follows old new
+  by_exchanging : Exchanges shown old new → ByteStep shown follows old new
 
 -- what a schedule from two fresh ends leads to
 pub data ByteSchedule {D : Type 0} (shown : D → Shown) (follows : Goes D) (limits : Settings) (debuggee : D) : ByteWorld D → Type 0 where

@@ -1,6 +1,6 @@
 //! The steps of a world of bytes, each as the call that it is: a function makes it, and its contract says that it is a step,
 //! whatever is on the ways, or why it is refused. What else is to be known of a call stands with the call.
-ghost use Rattle.std.specs.Prelude.{◌≡◌, IfErr, IfOk, OnErr, IsTrue, None};
+ghost use Rattle.std.specs.Prelude.{◌≡◌, [], IfErr, IfOk, OnErr, IsTrue, None};
 ghost use Rattle.dap_adapter.specs.AdapterState.{state_of};
 ghost use Rattle.dap_adapter.specs.Calls.{PollRefused, TakeRefused, TurnRefused};
 ghost use Rattle.dap_client.specs.Calls.{NotAnswered, NotSent, TakeRefused as ClientTakeRefused};
@@ -13,7 +13,7 @@ ghost use Rattle.dap_ways.specs.Steps.{AdapterSteps, AdapterStepsOver, ClientSte
 use dap_adapter::{Adapter, AdapterFault, Taken, Turned};
 use dap_call::Call;
 use dap_client::{AnswerFault, Client, ClientFault, Got, SendFault, Sent, Terminal};
-use dap_debuggee::Debuggee;
+use dap_debuggee::{Debuggee, HasMail};
 use dap_frame::Limits;
 use std::alloc::{AllocError, Global};
 
@@ -105,4 +105,13 @@ pub fn poll<D: Debuggee + Drop>(
     ensures refused { IfErr result (λ fault. adapter.old.fault ≡ None → PollRefused D.follows adapter.old fault adapter.new) }
 {
     adapter.poll(alloc)
+}
+
+/// [`Adapter::exchange`], which writes nothing.
+pub fn exchange<D: HasMail + Drop>(adapter: &mut Adapter<D>, given: D::Mail) -> D::Mail
+    ensures out { result ≡ D.mail adapter.old.debuggee }
+    ensures put { adapter.new.debuggee ≡ D.with_mail given adapter.old.debuggee }
+    ensures step { AdapterSteps D.shown D.follows adapter.old [] adapter.new }
+{
+    adapter.exchange(given)
 }

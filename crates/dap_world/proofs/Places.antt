@@ -30,7 +30,7 @@ use Rattle.dap_plan.specs.Session.{Session, own_requests}
 use Rattle.dap_tables.specs.Outstanding.{Kept, kept_unparked, without}
 use Rattle.dap_tables.specs.declared.entry.Entry.{Entry}
 use Rattle.dap_world.specs.Agreement.{requests_among, responses_among, answer_to, count, AreInOnePlace}
-use Rattle.dap_world.specs.World.{World, client_said, fresh_world, Step, by_sending, by_answering, by_coming_up, by_coming_down, by_turning, by_polling, Sends, Answers, ComesUp, ComesDown, Turns, Polls, Schedule, starts, goes}
+use Rattle.dap_world.specs.World.{World, client_said, fresh_world, Step, by_sending, by_answering, by_coming_up, by_coming_down, by_turning, by_polling, by_exchanging, Sends, Answers, ComesUp, ComesDown, Turns, Polls, Schedule, starts, goes}
 use Rattle.dap_world.proofs.ClientStepping.{Comes, down-first, down-comes, kind-leaves, request-kept}
 use Rattle.dap_world.proofs.Lasting.{schedule-stands}
 use Rattle.dap_world.proofs.Named.{Name, names_of, own_names, asked_as, answered_as, asked_in, answered_in, count as count_names, AreNamedInOnePlace, OwnIsNamedInOnePlace}
@@ -346,6 +346,8 @@ module _ {D : Type 0} (laws : Laws) (shown : D → Shown) (follows : Goes D) (li
   step-sent old new (by_coming_down t) st g = down-sent old new t st g
   step-sent old new (by_turning t) st g = turn-sent old new t st g
   step-sent old new (by_polling t) st g = poll-sent old new t st g
+  step-sent old new (by_exchanging t) st g =
+      subst (λ (w : World D). Sent w) (sym t.all_else) (record { by = g.by; outstanding = g.outstanding; up = g.up; kept = g.kept; down = g.down; incoming = g.incoming; own_down = g.own_down; own_up = g.own_up })
 
 no-one : ℕ → Asked
 no-one n = record { seq = n; command = []; arguments = None }

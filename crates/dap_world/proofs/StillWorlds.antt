@@ -23,9 +23,9 @@ use Rattle.dap_decision.specs.declared.phase.Phase.{Phase}
 use Rattle.dap_decision.specs.declared.phase.Phase.TheVariants as adapter
 use Rattle.dap_world.specs.Projection.{adapter_model_phase, pair_of}
 use Rattle.dap_world.specs.References.{LastingStops}
-use Rattle.dap_world.specs.World.{World, Step, by_sending, by_answering, by_coming_up, by_coming_down, by_turning, by_polling, Schedule, starts, goes, adapter_said}
+use Rattle.dap_world.specs.World.{World, Exchanges, Step, by_sending, by_answering, by_coming_up, by_coming_down, by_turning, by_polling, by_exchanging, Schedule, starts, goes, adapter_said}
 use Rattle.dap_world.proofs.ClientStepping.{send-stands, down-stands, answer-stands}
-use Rattle.dap_world.proofs.Lasting.{fresh-stands}
+use Rattle.dap_world.proofs.Lasting.{fresh-stands, stands-over}
 use Rattle.dap_world.proofs.PollsSeen.{happening_seen, happening_in, can_poll}
 use Rattle.dap_world.proofs.RowsSeen.{at}
 use Rattle.dap_world.proofs.Standing.{Stands, StandsAfter}
@@ -95,6 +95,18 @@ module _ {D : Type 0} (shown : D → Shown) (follows : Goes D) (answers : Answer
   keeps-then limits old new calm g a c k =
       subst (λ (p : Pair). KeepsReferences limits.requests limits.references p) a.is (keeps-references-step limits.requests limits.references (pair_of old g.by) a.step (a.still c) k)
 
+  -- the debuggee shows the same
+  exchange-still : (limits : Settings) (debuggee : D) (old new : World D) → Exchanges shown old new → StandsStill shown limits debuggee old → StandsStill shown limits debuggee new
+  exchange-still limits debuggee old new t g =
+      let first = (shown debuggee).state in
+      let w : World D = record old { adapter = record old.adapter { debuggee = new.adapter.debuggee } } in
+      let is : StandsStill shown limits debuggee w = record {
+        stands = stands-over limits old new.adapter.debuggee g.stands;
+        keeps = g.keeps;
+        state = subst (λ (x : Shown). IsStateOf first old.adapter.session.phase x.state) (sym t.shows_the_same) g.state;
+      } in
+      subst (λ (x : World D). StandsStill shown limits debuggee x) (sym t.all_else) is
+
   step-still : Laws → EachStepKeepsState → (limits : Settings) (debuggee : D) (old new : World D) → AreInRange limits → Step shown lasting old new → StandsStill shown limits debuggee old → StandsStill shown limits debuggee new
   step-still laws states limits debuggee old new r (by_sending call t) g =
       let a = send-stands laws limits call old new r t g.stands in
@@ -131,6 +143,7 @@ module _ {D : Type 0} (shown : D → Shown) (follows : Goes D) (answers : Answer
         keeps = keeps-then limits old new _ g.stands a calm g.keeps;
         state = state-stepped first (polls s) old old new t.step.adapter t.step.session t.step.is (states.poll first s) g.state;
       }
+  step-still laws states limits debuggee old new r (by_exchanging t) g = exchange-still limits debuggee old new t g
 
   pub schedule-still : Laws → EachStepKeepsState → (limits : Settings) (debuggee : D) (w : World D) → AreInRange limits → Schedule shown lasting limits debuggee w → StandsStill shown limits debuggee w
   unfolding fresh-stands
