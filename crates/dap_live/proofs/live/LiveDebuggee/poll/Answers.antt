@@ -1,4 +1,4 @@
-use Rattle.std.proofs.Common.{◌≡◌, sym, subst, ◌∙◌}
+use Rattle.std.proofs.Common.{sym, subst, ◌∙◌}
 use Rattle.dap_debuggee.specs.Shown.{to_poll, happened}
 use Rattle.dap_live.specs.LiveLaws.{FollowsLive}
 use Rattle.dap_live.specs.LiveShown.{LiveState, with_mail}
