@@ -86,6 +86,19 @@ fn push_sentence_of(
     }
 }
 
+fn rule_8_text(alloc: Global, line: u64) -> Result<String, AllocError>
+    ensures { IfOk result (λ text. string_bytes text ≡ codes "line " ++ decimal line ++ codes " rule 8\n") }
+{
+    Ok(format!(in alloc; "line {line} rule 8\n")?)
+}
+
+fn push_rule_8(alloc: Global, text: &mut Vec<u8>, line: u64) -> Result<(), AllocError>
+    ensures { OnOk result (text.new.items ≡ text.old.items ++ (codes "line " ++ decimal line ++ codes " rule 8\n")) }
+{
+    let words = rule_8_text(alloc, line)?;
+    text.extend_from_slice(words.as_bytes())
+}
+
 /// Of a line that breaks rule 8, which is given.
 fn push_fault(
     alloc: Global,
@@ -97,7 +110,7 @@ fn push_fault(
 ) -> Result<(), AllocError>
     ensures { OnOk result ((real : TheLine) → line.now ≡ Some real → text.new.items ≡ text.old.items ++ text_of_fault explained number real.message.kind (fault_seen fault.now)) }
 {
-    push_rule(alloc, text, number, 8)?;
+    push_rule_8(alloc, text, number)?;
     if !explained {
         return Ok(());
     }
