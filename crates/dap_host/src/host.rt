@@ -1,5 +1,5 @@
 //! A host's lines, one after the other.
-ghost use Rattle.std.specs.Prelude.{◌≡◌, ◌≢◌, ◌++◌, List, IfOk, drop};
+ghost use Rattle.std.specs.Prelude.{◌≡◌, ◌≢◌, ◌++◌, List, IfErr, IfOk, OnOk, drop};
 ghost use Rattle.dap_envelope.specs.declared.message.Message.{Message};
 ghost use Rattle.dap_line.specs.Written.{act_lines, message_lines};
 ghost use Rattle.dap_outbox.specs.Draft.{bytes_of};
