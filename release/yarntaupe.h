@@ -335,7 +335,7 @@ typedef struct {
 } yt_act;
 
 /* Fetches what the host has to do next: YT_NOTHING where nothing is left. It is called after each turn, and after
- * each piece, until it answers that. Where it is YT_NO_MEMORY, acts are lost: the adapter is to be let go. */
+ * each piece, until it answers that. Where it is YT_NO_MEMORY, no act is lost, and it can be called again. */
 uint32_t yt_adapter_act(yt_adapter *adapter, yt_act *act);
 
 /* Puts the lines of the act that was fetched last into a buffer. */

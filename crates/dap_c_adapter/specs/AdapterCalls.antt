@@ -1,16 +1,24 @@
 -- What the exports of an adapter do, in the words of dap_adapter, over the adapter behind the handle and a debuggee that the
 -- host feeds.
-use Rattle.std.specs.Prelude.{◌≡◌, ◌⊎◌, ℕ, List, [], ◌++◌, length, take, Bool, false, Option, Some, None, Ok, is_some, if◌then◌else◌}
+use Rattle.std.specs.Prelude.{◌≡◌, ◌⊎◌, ℕ, zero, suc, ℤ, List, [], ◌++◌, length, take, Bool, false, Option, Some, None, Result, Ok, Err, is_some, if◌then◌else◌}
+use Rattle.dap_debuggee.specs.declared.answers.Category.{Category}
+use Rattle.dap_debuggee.specs.declared.answers.Category.TheVariants.{Console, Stdout, Stderr}
 use Rattle.dap_debuggee.specs.declared.answers.Variable.{Variable}
 use Rattle.dap_envelope.specs.declared.message.Message.{Message}
 use Rattle.serde_json.specs.Data.{Data}
 use Rattle.dap_recording.specs.declared.recording.Recording.{Recording}
 use Rattle.dap_recording.specs.Reading.{verdict_of}
 use Rattle.dap_replay.specs.Played.{fresh_played}
-use Rattle.dap_live.specs.LiveShown.{LiveState, fresh_live, shown_live}
+use Rattle.dap_live.specs.declared.mail.Coming.{Coming}
+use Rattle.dap_live.specs.declared.mail.Coming.TheVariants as said
+use Rattle.dap_live.specs.declared.mail.Dropped.{Dropped}
+use Rattle.dap_live.specs.declared.mail.Dropped.TheVariants.{OutOfTurn, OutOfRange, TooManySources, Told, TooManyHolders}
+use Rattle.dap_live.specs.declared.mail.HostAct.{HostAct}
+use Rattle.dap_live.specs.LiveShown.{LiveState, fresh_live, shown_live, with_mail}
 use Rattle.dap_live.specs.LiveLaws.{FollowsLive}
+use Rattle.dap_live.specs.MailState.{MailState, no_mail, with_coming, without_acts}
 use Rattle.dap_plan.specs.declared.fault.AdapterFault.{AdapterFault}
-use Rattle.dap_adapter.specs.AdapterState.{state_of}
+use Rattle.dap_adapter.specs.AdapterState.{AdapterState, state_of}
 use Rattle.dap_adapter.specs.Calls.{Takes, TakeRefused, TurnGives, TurnRefused, AreFewer, Saw, PollRefused}
 use Rattle.dap_adapter.specs.declared.taken.Turned.{Turned}
 use Rattle.dap_adapter.specs.declared.taken.Turned.TheVariants.{Idle, Done}
@@ -84,23 +92,46 @@ pub record RefusesTurn (old new : HeldAdapter) (code : ℕ) (found : YtFound) : 
   pub latches : new.adapter.fault ≡ Some fault
   pub held : new.adapter.intake.held ≡ []
 
+-- ---- the mail of the debuggee
+
+-- the adapter whose debuggee has this mail
+abbrev pub over_mail : MailState → AdapterState LiveState → AdapterState LiveState
+over_mail mail a = record a { debuggee = with_mail mail a.debuggee }
+
+-- why what the host said is dropped, as a code; 0 where it is heard
+abbrev pub drop_number : Option Dropped → ℕ
+drop_number None = 0
+drop_number (Some OutOfTurn) = 51
+drop_number (Some OutOfRange) = 52
+drop_number (Some TooManySources) = 53
+drop_number (Some Told) = 54
+drop_number (Some TooManyHolders) = 55
+
+-- where what the host said is still there, the debuggee was not asked: nothing happens in this phase
+abbrev pub mail_number : MailState → ℕ
+mail_number m = if is_some m.coming then 51 else drop_number m.dropped
+
 -- what the host said was heard, or dropped for a reason
 abbrev pub IsToldCode : ℕ → Type 0
 IsToldCode code = (code ≡ 0) ⊎ (code ≡ 51) ⊎ (code ≡ 52) ⊎ (code ≡ 53) ⊎ (code ≡ 54) ⊎ (code ≡ 55)
 
--- the debuggee was asked what happened, and that was told
-pub record AdapterSaw (old new : HeldAdapter) (code : ℕ) (found : YtFound) : Type 0 where
-  pub code_is : IsToldCode code
-  pub saw : Saw FollowsLive old.adapter new.bytes.items new.adapter
+-- The debuggee was asked what happened, with just this in its mail, and what it answered was told. Then it has the mail that it had.
+pub record AdapterSaw (told : Coming) (old new : HeldAdapter) (code : ℕ) (found : YtFound) : Type 0 where
+  pub there : AdapterState LiveState
+  pub saw : Saw FollowsLive (over_mail (with_coming told no_mail) old.adapter) new.bytes.items there
+  pub adapter : new.adapter ≡ over_mail old.adapter.debuggee.mail there
+  pub code_is : code ≡ mail_number there.debuggee.mail
   pub bytes_length : found.bytes ≡ length new.bytes.items
   pub is_open : new.adapter.fault ≡ None
 
--- a poll was refused, and the adapter is closed
-pub record RefusesPoll (old new : HeldAdapter) (code : ℕ) (found : YtFound) : Type 0 where
+-- a poll with that in the mail was refused, and the adapter is closed
+pub record RefusesPoll (told : Coming) (old new : HeldAdapter) (code : ℕ) (found : YtFound) : Type 0 where
+  pub there : AdapterState LiveState
   pub fault : AdapterFault
+  pub why : old.adapter.fault ≡ None → PollRefused FollowsLive (over_mail (with_coming told no_mail) old.adapter) fault there
+  pub adapter : new.adapter ≡ over_mail old.adapter.debuggee.mail there
   pub code_is : code ≡ adapter_number fault
   pub found_is : IsAdapterFaultFound fault found
-  pub why : old.adapter.fault ≡ None → PollRefused FollowsLive old.adapter fault new.adapter
   pub latches : new.adapter.fault ≡ Some fault
   pub session : new.adapter.session ≡ old.adapter.session
   pub held : new.adapter.intake.held ≡ []
@@ -124,7 +155,30 @@ pub record IsUntold (old new : HeldAdapter) (code : ℕ) : Type 0 where
   pub adapter : new.adapter ≡ old.adapter
   pub none_written : new.bytes.items ≡ []
 
--- the acts that are still to be fetched, and the one that was fetched last, are as they were
+-- ---- what a host says, as a caller in C says it
+
+abbrev pub category_of : ℕ → Category
+category_of zero = Console
+category_of (suc zero) = Stdout
+category_of (suc (suc n)) = Stderr
+
+-- a stop at the first moment of a recording
+pub record IsStop (reason : List ℕ) (thread : ℤ) (shows : Option Data) (later : Bool) (told : Coming) : Type 0 where
+  pub recording : Recording
+  pub read : verdict_of shows ≡ Ok recording
+  pub is : told ≡ said.Stopped reason thread (fresh_played recording) later
+
+pub record AreSources (json : Option Data) (told : Coming) : Type 0 where
+  pub recording : Recording
+  pub read : verdict_of json ≡ Ok recording
+  pub is : told ≡ said.Sources (fresh_played recording)
+
+-- what a host says, as it was read, is told, or the adapter is as it was
+abbrev pub Tells : Result Coming ℕ → HeldAdapter → HeldAdapter → ℕ → YtFound → Type 0
+Tells (Ok told) old new code found = AdapterSaw told old new code found ⊎ RefusesPoll told old new code found
+Tells (Err why) old new code found = (code ≡ why) × IsUntold old new code
+
+-- the acts that were taken out of the mail, and the one that was fetched last, are as they were
 pub record KeepsActs (old new : HeldAdapter) : Type 0 where
   pub acts : new.acts ≡ old.acts
   pub act : new.act ≡ old.act
@@ -133,9 +187,13 @@ pub record KeepsActs (old new : HeldAdapter) : Type 0 where
 abbrev pub variable_told : List ℕ → List ℕ → Bool → ℕ → Variable
 variable_told name value has_parts holder = record { name = name; value = value; holder = if has_parts then Some holder else None }
 
--- the session is as it was, with what is to be written and the frame
+-- what the host has still to fetch, in the order in which it was asked
+abbrev pub acts_due : HeldAdapter → List HostAct
+acts_due h = h.acts.items ++ h.adapter.debuggee.mail.acts
+
+-- the adapter is as it was, but for acts that were taken out of the mail, with what is to be written and the frame
 pub record KeepsSession (old new : HeldAdapter) : Type 0 where
-  pub adapter : new.adapter ≡ old.adapter
+  pub adapter : (new.adapter ≡ old.adapter) ⊎ (new.adapter ≡ over_mail (without_acts old.adapter.debuggee.mail) old.adapter)
   pub bytes : new.bytes ≡ old.bytes
   pub frame : new.frame ≡ old.frame
   pub whole : new.whole ≡ old.whole

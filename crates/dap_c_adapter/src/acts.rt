@@ -1,8 +1,8 @@
 //! What the host has to do: acts that the session asked for go out, one a call, with their lines and texts by a copy. Only what
 //! waits behind the handle and what the caller lends for an answer are touched; the session is as it was.
-ghost use Rattle.std.specs.Prelude.{◌≡◌, ◌<◌, ◌++◌, length, drop, IfSome, IsSome, None};
+ghost use Rattle.std.specs.Prelude.{◌≡◌, ◌<◌, ◌++◌, ◌∷◌, [], length, drop, IfSome, IsSome, None, true};
 ghost use Rattle.dap_c_adapter.specs.Acts.{IsActFound, how_number, path_of, reference_in, lines_of, source_of, variable_of, value_of, PutsPart};
-ghost use Rattle.dap_c_adapter.specs.AdapterCalls.{KeepsSession};
+ghost use Rattle.dap_c_adapter.specs.AdapterCalls.{KeepsSession, acts_due};
 ghost use Rattle.dap_c_parts.specs.Behind.{FromTo};
 
 use crate::adapter_handle::YtAdapter;
@@ -11,7 +11,7 @@ use dap_c_parts::codes::{YT_NO_MEMORY, YT_NONE, YT_NOTHING, YT_OK, YT_SMALL};
 use dap_c_parts::copying::{put, put_numbers};
 use dap_command::SourceKey;
 use dap_debuggee::How;
-use dap_live::HostAct;
+use dap_live::{HostAct, Mail};
 use dap_slot::{handle_of, take_out};
 use std::alloc::Global;
 
@@ -117,20 +117,38 @@ fn found_of(act: &HostAct) -> YtAct
     }
 }
 
-fn next_act(alloc: Global, held: &mut HeldAdapter, act: &mut YtAct) -> u32
+/// Takes acts out of the mail, where none are left of those that were. Whether memory was not refused.
+fn fill_acts(alloc: Global, held: &mut HeldAdapter) -> bool
+    ensures due { acts_due held.new ≡ acts_due held.old }
+    ensures filled { result ≡ true → held.new.acts.items ≡ [] → acts_due held.new ≡ [] }
+    ensures same { KeepsSession held.old held.new }
+    ensures act { held.new.act ≡ held.old.act }
+{
+    if !held.acts.is_empty() {
+        return true;
+    }
+    let mut mail = held.adapter.exchange(Mail::new(alloc));
+    let taken = mail.take_acts(alloc);
+    let _ = held.adapter.exchange(mail);
+    match taken {
+        Ok(acts) => {
+            held.acts = acts;
+            true
+        }
+        Err(_) => false,
+    }
+}
+
+/// Hands out the first of the acts that were taken out of the mail.
+fn first_act(held: &mut HeldAdapter, act: &mut YtAct) -> u32
+    ensures first { result ≡ YT_OK → IfSome held.new.act (λ a. acts_due held.old ≡ a ∷ acts_due held.new) }
     ensures some { result ≡ YT_OK → IsSome held.new.act }
     ensures found { result ≡ YT_OK → IfSome held.new.act (λ a. IsActFound a act.new) }
-    ensures nothing { result ≡ YT_NOTHING → held.new.act ≡ None }
+    ensures nothing { result ≡ YT_NOTHING → (held.new.act ≡ None) × (held.old.acts.items ≡ []) × (acts_due held.new ≡ acts_due held.old) }
     ensures untold { (result ≡ YT_OK → ⊥) → act.new ≡ act.old }
-    ensures same { KeepsSession held.old held.new }
-    ensures codes { (result ≡ YT_OK → ⊥) → (result ≡ YT_NOTHING → ⊥) → result ≡ YT_NO_MEMORY }
+    ensures same { KeepsSession held.old held.new × (held.new.adapter ≡ held.old.adapter) }
+    ensures codes { (result ≡ YT_OK → ⊥) → result ≡ YT_NOTHING }
 {
-    if held.acts.is_empty() {
-        let Ok(acts) = held.mail.take_acts(alloc) else {
-            return YT_NO_MEMORY;
-        };
-        held.acts = acts;
-    }
     if held.acts.is_empty() {
         held.act = None;
         return YT_NOTHING;
@@ -141,15 +159,35 @@ fn next_act(alloc: Global, held: &mut HeldAdapter, act: &mut YtAct) -> u32
     YT_OK
 }
 
+fn next_act(alloc: Global, held: &mut HeldAdapter, act: &mut YtAct) -> u32
+    ensures first { result ≡ YT_OK → IfSome held.new.act (λ a. acts_due held.old ≡ a ∷ acts_due held.new) }
+    ensures some { result ≡ YT_OK → IsSome held.new.act }
+    ensures found { result ≡ YT_OK → IfSome held.new.act (λ a. IsActFound a act.new) }
+    ensures nothing { result ≡ YT_NOTHING → (held.new.act ≡ None) × (acts_due held.old ≡ []) }
+    ensures left { (result ≡ YT_OK → ⊥) → acts_due held.new ≡ acts_due held.old }
+    ensures untold { (result ≡ YT_OK → ⊥) → act.new ≡ act.old }
+    ensures same { KeepsSession held.old held.new }
+    ensures codes { (result ≡ YT_OK → ⊥) → (result ≡ YT_NOTHING → ⊥) → result ≡ YT_NO_MEMORY }
+{
+    if !fill_acts(alloc, held) {
+        return YT_NO_MEMORY;
+    }
+    first_act(held, act)
+}
+
 /// Fetches what the host has to do next: `YT_NOTHING` where nothing is left. It is called after each turn, and after each
-/// piece, until it answers that. Where it is `YT_NO_MEMORY`, acts are lost: the adapter is to be let go.
+/// piece, until it answers that. Where it is `YT_NO_MEMORY`, no act is lost, and it can be called again.
 #[unsafe(no_mangle)]
 pub extern "C" fn yt_adapter_act(alloc: Global, adapter: &mut YtAdapter, act: &mut YtAct) -> u32
     ensures none { adapter.old.inner.value ≡ None → (result ≡ YT_NONE) × (act.new ≡ act.old) }
     ensures held { IsSome adapter.old.inner.value → IsSome adapter.new.inner.value }
     ensures some { FromTo adapter.old.inner.value adapter.new.inner.value (λ a b. result ≡ YT_OK → IsSome b.act) }
     ensures found { FromTo adapter.old.inner.value adapter.new.inner.value (λ a b. result ≡ YT_OK → IfSome b.act (λ x. IsActFound x act.new)) }
-    ensures nothing { FromTo adapter.old.inner.value adapter.new.inner.value (λ a b. result ≡ YT_NOTHING → b.act ≡ None) }
+
+    // The acts that were asked for come in that order, each once.
+    ensures first { FromTo adapter.old.inner.value adapter.new.inner.value (λ a b. result ≡ YT_OK → IfSome b.act (λ x. acts_due a ≡ x ∷ acts_due b)) }
+    ensures nothing { FromTo adapter.old.inner.value adapter.new.inner.value (λ a b. result ≡ YT_NOTHING → (b.act ≡ None) × (acts_due a ≡ [])) }
+    ensures left { FromTo adapter.old.inner.value adapter.new.inner.value (λ a b. (result ≡ YT_OK → ⊥) → acts_due b ≡ acts_due a) }
     ensures untold { (result ≡ YT_OK → ⊥) → act.new ≡ act.old }
     ensures same { FromTo adapter.old.inner.value adapter.new.inner.value (λ a b. KeepsSession a b) }
     ensures codes { IsSome adapter.old.inner.value → (result ≡ YT_OK → ⊥) → (result ≡ YT_NOTHING → ⊥) → result ≡ YT_NO_MEMORY }

@@ -28,25 +28,19 @@ use dap_c_parts::copying::put;
 use dap_c_parts::found::{YtFound, fault_at, nothing_found};
 use dap_c_parts::limits::{self, YtLimits};
 use dap_frame::Limits;
-use dap_live::{Live, Mail};
+use dap_live::Live;
 use dap_replay::Recorded;
 use dap_slot::{handle_of, take_out};
 use std::alloc::Global;
-use std::rc::Rc;
 
 /// The adapter over a debuggee with these sources.
-fn adapter_over(
-    alloc: Global,
-    limits: Limits,
-    base: Recorded,
-    mail: Rc<Mail>,
-) -> Option<Adapter<Live>>
+fn adapter_over(alloc: Global, limits: Limits, base: Recorded) -> Option<Adapter<Live>>
     ensures session { IfSome result (λ a. a.session ≡ fresh_session limits) }
     ensures fault { IfSome result (λ a. a.fault ≡ None) }
     ensures debuggee { IfSome result (λ a. a.debuggee ≡ fresh_live base) }
     ensures stands { IfSome result (λ a. StandsFor a [] []) }
 {
-    match Adapter::open(alloc, limits, Live::open(alloc, base, mail)) {
+    match Adapter::open(alloc, limits, Live::open(alloc, base)) {
         Ok(adapter) => Some(adapter),
         Err(_) => None,
     }
@@ -68,26 +62,19 @@ fn opened(alloc: Global, limits: &YtLimits, base: &[u8]) -> Result<Box<HeldAdapt
         return Err(YT_BAD_LIMITS);
     };
     let base = recording_given(alloc, base)?;
-    let Ok(mail) = Rc::new(alloc, Mail::new(alloc)) else {
+    let Some(adapter) = adapter_over(alloc, limits, base) else {
         return Err(YT_NO_MEMORY);
     };
-    let Ok(other) = mail.clone() else {
-        return Err(YT_NO_MEMORY);
-    };
-    let Some(adapter) = adapter_over(alloc, limits, base, other) else {
-        return Err(YT_NO_MEMORY);
-    };
-    boxed(alloc, adapter, mail)
+    boxed(alloc, adapter)
 }
 
-fn boxed(alloc: Global, adapter: Adapter<Live>, mail: Rc<Mail>) -> Result<Box<HeldAdapter>, u32>
+fn boxed(alloc: Global, adapter: Adapter<Live>) -> Result<Box<HeldAdapter>, u32>
     ensures adapter { IfOk result (λ b. b.value.adapter ≡ adapter) }
     ensures nothing { IfOk result (λ b. HasNothing b.value) }
     ensures code { IfErr result (λ code. code ≡ YT_NO_MEMORY) }
 {
     let held = HeldAdapter {
         adapter,
-        mail,
         bytes: Vec::new(alloc),
         frame: Vec::new(alloc),
         whole: false,

@@ -1,16 +1,17 @@
 //! What a host says of its debuggee: what happened comes in, and what is to be written for it goes out.
 //!
-//! What does not happen in the state that the debuggee is in, or is out of its range, is dropped, and the code says why. No
-//! clause says what is shown then: it is what the host told, whatever that is. Only the adapter behind the handle and what
-//! the caller lends for an answer are touched.
+//! What does not happen in the state that the debuggee is in, or is out of its range, is dropped, and the code says why. What
+//! is told is in the debuggee's mail for one poll (`Tells`); what is shown then is what the host told. Only the adapter behind
+//! the handle and what the caller lends for an answer are touched.
 ghost use Rattle.std.specs.Prelude.{◌≡◌, ◌⊎◌, ◌≤◌, ◌++◌, ◌∷◌, IfOk, IfErr, IfSome, IsSome, IsOk, IsUtf8, Some, None, Ok, Err, false, [], length, if◌then◌else◌};
 ghost use Rattle.dap_json.specs.Read.{json_of};
 ghost use Rattle.dap_recording.specs.Reading.{verdict_of};
 ghost use Rattle.dap_replay.specs.Played.{fresh_played};
 ghost use Rattle.dap_plan.specs.Polling.{has_debuggee};
 ghost use Rattle.dap_plan.specs.declared.fault.AdapterFault.{AdapterFault as TheFault};
-ghost use Rattle.dap_c_adapter.specs.AdapterCalls.{AdapterSaw, RefusesPoll, IsUntold, IsCodeOfText, IsCodeOfRecording, IsToldCode, IsNoRecording, KeepsActs, variable_told};
+ghost use Rattle.dap_c_adapter.specs.AdapterCalls.{AdapterSaw, RefusesPoll, Tells, IsStop, AreSources, IsCodeOfText, IsCodeOfRecording, IsToldCode, IsNoRecording, KeepsActs, category_of, mail_number, variable_told};
 ghost use Rattle.dap_c_adapter.specs.AdapterFaults.{adapter_number, IsAdapterFaultFound};
+ghost use Rattle.dap_live.specs.declared.mail.Coming.TheVariants as said;
 ghost use Rattle.dap_c_parts.specs.Behind.{FromTo};
 
 use crate::adapter::{adapter_code, adapter_fault_found, only_bytes};
@@ -26,8 +27,10 @@ use dap_replay::Recorded;
 use dap_slot::{handle_of, take_out};
 use std::alloc::Global;
 
-fn told_code(mail: &Mail) -> u32
-    ensures { IsToldCode result }
+/// Why what was told is dropped, as a code.
+fn mail_code(mail: &mut Mail) -> u32
+    ensures is { result ≡ mail_number mail.old }
+    ensures codes { IsToldCode result }
 {
     // The debuggee was not asked: nothing happens in this phase.
     if mail.take_coming().is_some() {
@@ -45,7 +48,7 @@ fn told_code(mail: &Mail) -> u32
 
 /// Hands what the host says to the debuggee, and asks it what happened.
 fn tell(alloc: Global, held: &mut HeldAdapter, coming: Coming, found: &mut YtFound) -> u32
-    ensures tells { AdapterSaw held.old held.new result found.new ⊎ RefusesPoll held.old held.new result found.new }
+    ensures tells { AdapterSaw coming held.old held.new result found.new ⊎ RefusesPoll coming held.old held.new result found.new }
     ensures latched { IfSome held.old.adapter.fault (λ fault. (result ≡ adapter_number fault) × IsAdapterFaultFound fault found.new × (held.new.adapter ≡ held.old.adapter)) }
     ensures apart { held.old.adapter.fault ≡ None → has_debuggee held.old.adapter.session.phase ≡ false → held.new.adapter.fault ≡ None }
     ensures length { found.new.bytes ≡ length held.new.bytes.items }
@@ -56,12 +59,16 @@ fn tell(alloc: Global, held: &mut HeldAdapter, coming: Coming, found: &mut YtFou
     ensures gathered { held.new.variables ≡ held.old.variables }
 {
     held.bytes.clear();
-    held.mail.post(coming);
-    match held.adapter.poll(alloc) {
+    let mut mail = Mail::new(alloc);
+    mail.post(coming);
+    let kept = held.adapter.exchange(mail);
+    let polled = held.adapter.poll(alloc);
+    let mut mail = held.adapter.exchange(kept);
+    match polled {
         Ok(bytes) => {
             held.bytes = bytes;
             *found = only_bytes(held);
-            told_code(&held.mail)
+            mail_code(&mut mail)
         }
         Err(fault) => {
             *found = adapter_fault_found(fault);
@@ -78,7 +85,7 @@ fn tell_given(
     found: &mut YtFound,
 ) -> u32
     requires { IfErr coming IsCodeOfText }
-    ensures tells { AdapterSaw held.old held.new result found.new ⊎ RefusesPoll held.old held.new result found.new ⊎ IsUntold held.old held.new result }
+    ensures tells { Tells coming held.old held.new result found.new }
     ensures latched { IfSome held.old.adapter.fault (λ fault. ((result ≡ adapter_number fault) ⊎ IsCodeOfText result) × (held.new.adapter ≡ held.old.adapter)) }
     ensures apart { held.old.adapter.fault ≡ None → has_debuggee held.old.adapter.session.phase ≡ false → held.new.adapter.fault ≡ None }
     ensures length { found.new.bytes ≡ length held.new.bytes.items }
@@ -108,7 +115,7 @@ fn tell_handle(
     requires { IfErr coming IsCodeOfText }
     ensures none { adapter.old.inner.value ≡ None → (result ≡ YT_NONE) × (adapter.new.inner.value ≡ None) × (found.new ≡ found.old) }
     ensures held { IsSome adapter.old.inner.value → IsSome adapter.new.inner.value }
-    ensures tells { FromTo adapter.old.inner.value adapter.new.inner.value (λ a b. AdapterSaw a b result found.new ⊎ RefusesPoll a b result found.new ⊎ IsUntold a b result) }
+    ensures tells { FromTo adapter.old.inner.value adapter.new.inner.value (λ a b. Tells coming a b result found.new) }
     ensures latched { (fault : TheFault) → FromTo adapter.old.inner.value adapter.new.inner.value (λ a b. a.adapter.fault ≡ Some fault → ((result ≡ adapter_number fault) ⊎ IsCodeOfText result) × (b.adapter ≡ a.adapter)) }
     ensures apart { FromTo adapter.old.inner.value adapter.new.inner.value (λ a b. a.adapter.fault ≡ None → has_debuggee a.adapter.session.phase ≡ false → b.adapter.fault ≡ None) }
     ensures length { FromTo adapter.old.inner.value adapter.new.inner.value (λ a b. found.new.bytes ≡ length b.bytes.items) }
@@ -154,6 +161,7 @@ pub(crate) fn recording_given(alloc: Global, bytes: &[u8]) -> Result<Recorded, u
 }
 
 fn output_given(alloc: Global, category: u32, output: &[u8]) -> Result<Coming, u32>
+    ensures said { IfOk result (λ told. told ≡ said.Output (category_of category) output.now) }
     ensures wanted { category ≤ 2 → IsUtf8 output.now → IfErr result (λ code. code ≡ YT_NO_MEMORY) }
     ensures code { IfErr result IsCodeOfText }
 {
@@ -174,6 +182,7 @@ fn stop_given(
     shows: &[u8],
     later: bool,
 ) -> Result<Coming, u32>
+    ensures said { IfOk result (IsStop reason.now thread (json_of shows.now) later) }
     ensures wanted { IsUtf8 reason.now → IfErr result (λ code. code ≡ YT_BAD_ARGUMENTS → ⊥) }
     ensures no_recording { IfErr result (λ code. code ≡ YT_BAD_RECORDING → IsNoRecording (json_of shows.now)) }
     ensures code { IfErr result IsCodeOfText }
@@ -199,7 +208,7 @@ pub extern "C" fn yt_adapter_output(
 ) -> u32
     ensures none { adapter.old.inner.value ≡ None → (result ≡ YT_NONE) × (adapter.new.inner.value ≡ None) × (found.new ≡ found.old) }
     ensures held { IsSome adapter.old.inner.value → IsSome adapter.new.inner.value }
-    ensures tells { FromTo adapter.old.inner.value adapter.new.inner.value (λ a b. AdapterSaw a b result found.new ⊎ RefusesPoll a b result found.new ⊎ IsUntold a b result) }
+    ensures tells { FromTo adapter.old.inner.value adapter.new.inner.value (λ a b. (given : _) × IfOk given (λ told. told ≡ said.Output (category_of category) output.now) × Tells given a b result found.new) }
     ensures latched { (fault : TheFault) → FromTo adapter.old.inner.value adapter.new.inner.value (λ a b. a.adapter.fault ≡ Some fault → ((result ≡ adapter_number fault) ⊎ IsCodeOfText result) × (b.adapter ≡ a.adapter)) }
     ensures apart { FromTo adapter.old.inner.value adapter.new.inner.value (λ a b. a.adapter.fault ≡ None → has_debuggee a.adapter.session.phase ≡ false → b.adapter.fault ≡ None) }
     ensures length { FromTo adapter.old.inner.value adapter.new.inner.value (λ a b. found.new.bytes ≡ length b.bytes.items) }
@@ -226,7 +235,7 @@ pub extern "C" fn yt_adapter_stopped(
 ) -> u32
     ensures none { adapter.old.inner.value ≡ None → (result ≡ YT_NONE) × (adapter.new.inner.value ≡ None) × (found.new ≡ found.old) }
     ensures held { IsSome adapter.old.inner.value → IsSome adapter.new.inner.value }
-    ensures tells { FromTo adapter.old.inner.value adapter.new.inner.value (λ a b. AdapterSaw a b result found.new ⊎ RefusesPoll a b result found.new ⊎ IsUntold a b result) }
+    ensures tells { FromTo adapter.old.inner.value adapter.new.inner.value (λ a b. (given : _) × IfOk given (λ told. IsStop reason.now thread (json_of shows.now) later told) × Tells given a b result found.new) }
     ensures latched { (fault : TheFault) → FromTo adapter.old.inner.value adapter.new.inner.value (λ a b. a.adapter.fault ≡ Some fault → ((result ≡ adapter_number fault) ⊎ IsCodeOfText result) × (b.adapter ≡ a.adapter)) }
     ensures apart { FromTo adapter.old.inner.value adapter.new.inner.value (λ a b. a.adapter.fault ≡ None → has_debuggee a.adapter.session.phase ≡ false → b.adapter.fault ≡ None) }
     ensures length { FromTo adapter.old.inner.value adapter.new.inner.value (λ a b. found.new.bytes ≡ length b.bytes.items) }
@@ -255,7 +264,7 @@ pub extern "C" fn yt_adapter_continued(
 ) -> u32
     ensures none { adapter.old.inner.value ≡ None → (result ≡ YT_NONE) × (adapter.new.inner.value ≡ None) × (found.new ≡ found.old) }
     ensures held { IsSome adapter.old.inner.value → IsSome adapter.new.inner.value }
-    ensures tells { FromTo adapter.old.inner.value adapter.new.inner.value (λ a b. AdapterSaw a b result found.new ⊎ RefusesPoll a b result found.new ⊎ IsUntold a b result) }
+    ensures tells { FromTo adapter.old.inner.value adapter.new.inner.value (λ a b. Tells (Ok (said.Continued thread)) a b result found.new) }
     ensures latched { (fault : TheFault) → FromTo adapter.old.inner.value adapter.new.inner.value (λ a b. a.adapter.fault ≡ Some fault → ((result ≡ adapter_number fault) ⊎ IsCodeOfText result) × (b.adapter ≡ a.adapter)) }
     ensures apart { FromTo adapter.old.inner.value adapter.new.inner.value (λ a b. a.adapter.fault ≡ None → has_debuggee a.adapter.session.phase ≡ false → b.adapter.fault ≡ None) }
     ensures length { FromTo adapter.old.inner.value adapter.new.inner.value (λ a b. found.new.bytes ≡ length b.bytes.items) }
@@ -278,7 +287,7 @@ pub extern "C" fn yt_adapter_exited(
 ) -> u32
     ensures none { adapter.old.inner.value ≡ None → (result ≡ YT_NONE) × (adapter.new.inner.value ≡ None) × (found.new ≡ found.old) }
     ensures held { IsSome adapter.old.inner.value → IsSome adapter.new.inner.value }
-    ensures tells { FromTo adapter.old.inner.value adapter.new.inner.value (λ a b. AdapterSaw a b result found.new ⊎ RefusesPoll a b result found.new ⊎ IsUntold a b result) }
+    ensures tells { FromTo adapter.old.inner.value adapter.new.inner.value (λ a b. Tells (Ok (said.Exited code)) a b result found.new) }
     ensures latched { (fault : TheFault) → FromTo adapter.old.inner.value adapter.new.inner.value (λ a b. a.adapter.fault ≡ Some fault → ((result ≡ adapter_number fault) ⊎ IsCodeOfText result) × (b.adapter ≡ a.adapter)) }
     ensures apart { FromTo adapter.old.inner.value adapter.new.inner.value (λ a b. a.adapter.fault ≡ None → has_debuggee a.adapter.session.phase ≡ false → b.adapter.fault ≡ None) }
     ensures length { FromTo adapter.old.inner.value adapter.new.inner.value (λ a b. found.new.bytes ≡ length b.bytes.items) }
@@ -305,6 +314,7 @@ fn value_given(
     value: &[u8],
     holder: Option<u64>,
 ) -> Result<Coming, u32>
+    ensures said { IfOk result (λ told. told ≡ said.Learned asked.now (if known then Some value.now else None) holder) }
     ensures wanted { IsUtf8 asked.now → IsUtf8 value.now → IfErr result (λ code. code ≡ YT_NO_MEMORY) }
     ensures code { IfErr result IsCodeOfText }
 {
@@ -351,7 +361,7 @@ pub extern "C" fn yt_adapter_learned(
 ) -> u32
     ensures none { adapter.old.inner.value ≡ None → (result ≡ YT_NONE) × (adapter.new.inner.value ≡ None) × (found.new ≡ found.old) }
     ensures held { IsSome adapter.old.inner.value → IsSome adapter.new.inner.value }
-    ensures tells { FromTo adapter.old.inner.value adapter.new.inner.value (λ a b. AdapterSaw a b result found.new ⊎ RefusesPoll a b result found.new ⊎ IsUntold a b result) }
+    ensures tells { FromTo adapter.old.inner.value adapter.new.inner.value (λ a b. (given : _) × IfOk given (λ told. told ≡ said.Learned asked.now (if known then Some value.now else None) (if has_parts then Some holder else None)) × Tells given a b result found.new) }
     ensures latched { (fault : TheFault) → FromTo adapter.old.inner.value adapter.new.inner.value (λ a b. a.adapter.fault ≡ Some fault → ((result ≡ adapter_number fault) ⊎ IsCodeOfText result) × (b.adapter ≡ a.adapter)) }
     ensures apart { FromTo adapter.old.inner.value adapter.new.inner.value (λ a b. a.adapter.fault ≡ None → has_debuggee a.adapter.session.phase ≡ false → b.adapter.fault ≡ None) }
     ensures length { FromTo adapter.old.inner.value adapter.new.inner.value (λ a b. found.new.bytes ≡ length b.bytes.items) }
@@ -416,7 +426,7 @@ pub extern "C" fn yt_adapter_variable(
 }
 
 fn tell_variables(alloc: Global, held: &mut HeldAdapter, holder: u64, found: &mut YtFound) -> u32
-    ensures tells { AdapterSaw held.old held.new result found.new ⊎ RefusesPoll held.old held.new result found.new }
+    ensures tells { Tells (Ok (said.Variables holder held.old.variables.items)) held.old held.new result found.new }
     ensures latched { IfSome held.old.adapter.fault (λ fault. (result ≡ adapter_number fault) × IsAdapterFaultFound fault found.new × (held.new.adapter ≡ held.old.adapter)) }
     ensures apart { held.old.adapter.fault ≡ None → has_debuggee held.old.adapter.session.phase ≡ false → held.new.adapter.fault ≡ None }
     ensures length { found.new.bytes ≡ length held.new.bytes.items }
@@ -443,7 +453,7 @@ pub extern "C" fn yt_adapter_variables(
 ) -> u32
     ensures none { adapter.old.inner.value ≡ None → (result ≡ YT_NONE) × (adapter.new.inner.value ≡ None) × (found.new ≡ found.old) }
     ensures held { IsSome adapter.old.inner.value → IsSome adapter.new.inner.value }
-    ensures tells { FromTo adapter.old.inner.value adapter.new.inner.value (λ a b. AdapterSaw a b result found.new ⊎ RefusesPoll a b result found.new) }
+    ensures tells { FromTo adapter.old.inner.value adapter.new.inner.value (λ a b. Tells (Ok (said.Variables holder a.variables.items)) a b result found.new) }
     ensures latched { (fault : TheFault) → FromTo adapter.old.inner.value adapter.new.inner.value (λ a b. a.adapter.fault ≡ Some fault → (result ≡ adapter_number fault) × IsAdapterFaultFound fault found.new × (b.adapter ≡ a.adapter)) }
     ensures apart { FromTo adapter.old.inner.value adapter.new.inner.value (λ a b. a.adapter.fault ≡ None → has_debuggee a.adapter.session.phase ≡ false → b.adapter.fault ≡ None) }
     ensures length { FromTo adapter.old.inner.value adapter.new.inner.value (λ a b. found.new.bytes ≡ length b.bytes.items) }
@@ -461,6 +471,7 @@ pub extern "C" fn yt_adapter_variables(
 }
 
 fn sources_given(alloc: Global, sources: &[u8]) -> Result<Coming, u32>
+    ensures said { IfOk result (AreSources (json_of sources.now)) }
     ensures no_recording { IfErr result (λ code. code ≡ YT_BAD_RECORDING → IsNoRecording (json_of sources.now)) }
     ensures code { IfErr result IsCodeOfRecording }
 {
@@ -478,7 +489,7 @@ pub extern "C" fn yt_adapter_sources(
 ) -> u32
     ensures none { adapter.old.inner.value ≡ None → (result ≡ YT_NONE) × (adapter.new.inner.value ≡ None) × (found.new ≡ found.old) }
     ensures held { IsSome adapter.old.inner.value → IsSome adapter.new.inner.value }
-    ensures tells { FromTo adapter.old.inner.value adapter.new.inner.value (λ a b. AdapterSaw a b result found.new ⊎ RefusesPoll a b result found.new ⊎ IsUntold a b result) }
+    ensures tells { FromTo adapter.old.inner.value adapter.new.inner.value (λ a b. (given : _) × IfOk given (λ told. AreSources (json_of sources.now) told) × Tells given a b result found.new) }
     ensures latched { (fault : TheFault) → FromTo adapter.old.inner.value adapter.new.inner.value (λ a b. a.adapter.fault ≡ Some fault → ((result ≡ adapter_number fault) ⊎ IsCodeOfText result) × (b.adapter ≡ a.adapter)) }
     ensures apart { FromTo adapter.old.inner.value adapter.new.inner.value (λ a b. a.adapter.fault ≡ None → has_debuggee a.adapter.session.phase ≡ false → b.adapter.fault ≡ None) }
     ensures length { FromTo adapter.old.inner.value adapter.new.inner.value (λ a b. found.new.bytes ≡ length b.bytes.items) }

@@ -5,7 +5,6 @@ use Rattle.dap_debuggee.specs.declared.answers.Asked.{Asked}
 use Rattle.dap_debuggee.specs.declared.answers.Asked.TheVariants as ask
 use Rattle.dap_live.specs.declared.mail.HostAct.{HostAct}
 use Rattle.dap_live.specs.declared.mail.HostAct.TheVariants as act
-use Rattle.dap_debuggee.specs.declared.answers.Happening.{Happening}
 use Rattle.dap_replay.specs.Played.{Played}
 use Rattle.dap_live.specs.declared.held.Learned.{Learned}
 use Rattle.dap_live.specs.declared.held.LiveLast.{LiveLast}

@@ -1,4 +1,4 @@
-use Rattle.std.proofs.Common.{◌≡◌, Bool, true, false, List, Some, None, ap, rules}
+use Rattle.std.proofs.Common.{◌≡◌, true, false, List, None, ap, rules}
 use Rattle.std.specs.List.{last_or}
 use Rattle.dap_live.specs.declared.mail.HostAct.{HostAct}
 use Rattle.dap_live.specs.MailState.{MailState, is_end}
