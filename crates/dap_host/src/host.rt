@@ -487,8 +487,10 @@ impl Host {
         ensures stops { IfErr result (λ fault. fault ≢ AdapterFault.OutOfMemory → StopsTelling self.old coming out.old.items out.new.items self.new fault) }
     {
         let dropped = self.tell(alloc, coming, out)?;
-        self.refuse_dropped(dropped, out)?;
-        Ok(dropped)
+        match self.refuse_dropped(dropped, out) {
+            Ok(()) => Ok(dropped),
+            Err(fault) => Err(fault),
+        }
     }
 
     /// Lets the adapter tell what happened: why it is dropped, if it is.
