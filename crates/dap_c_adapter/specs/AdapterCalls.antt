@@ -111,6 +111,10 @@ drop_number (Some TooManyHolders) = 55
 abbrev pub mail_number : MailState → ℕ
 mail_number m = if is_some m.coming then 51 else drop_number m.dropped
 
+-- what the host said was heard, or dropped for a reason
+abbrev pub IsToldCode : ℕ → Type 0
+IsToldCode code = (code ≡ 0) ⊎ (code ≡ 51) ⊎ (code ≡ 52) ⊎ (code ≡ 53) ⊎ (code ≡ 54) ⊎ (code ≡ 55)
+
 -- The debuggee was asked what happened, with just this in its mail, and what it answered was told. Then it has the mail that it had.
 pub record AdapterSaw (told : Coming) (old new : HeldAdapter) (code : ℕ) (found : YtFound) : Type 0 where
   pub there : AdapterState LiveState

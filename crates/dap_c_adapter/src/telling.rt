@@ -9,7 +9,7 @@ ghost use Rattle.dap_recording.specs.Reading.{verdict_of};
 ghost use Rattle.dap_replay.specs.Played.{fresh_played};
 ghost use Rattle.dap_plan.specs.Polling.{has_debuggee};
 ghost use Rattle.dap_plan.specs.declared.fault.AdapterFault.{AdapterFault as TheFault};
-ghost use Rattle.dap_c_adapter.specs.AdapterCalls.{AdapterSaw, RefusesPoll, Tells, IsStop, AreSources, IsCodeOfText, IsCodeOfRecording, IsNoRecording, KeepsActs, category_of, mail_number, variable_told};
+ghost use Rattle.dap_c_adapter.specs.AdapterCalls.{AdapterSaw, RefusesPoll, Tells, IsStop, AreSources, IsCodeOfText, IsCodeOfRecording, IsToldCode, IsNoRecording, KeepsActs, category_of, mail_number, variable_told};
 ghost use Rattle.dap_c_adapter.specs.AdapterFaults.{adapter_number, IsAdapterFaultFound};
 ghost use Rattle.dap_live.specs.declared.mail.Coming.TheVariants as said;
 ghost use Rattle.dap_c_parts.specs.Behind.{FromTo};
@@ -29,7 +29,8 @@ use std::alloc::Global;
 
 /// Why what was told is dropped, as a code.
 fn mail_code(mail: &mut Mail) -> u32
-    ensures { result ≡ mail_number mail.old }
+    ensures is { result ≡ mail_number mail.old }
+    ensures codes { IsToldCode result }
 {
     // The debuggee was not asked: nothing happens in this phase.
     if mail.take_coming().is_some() {

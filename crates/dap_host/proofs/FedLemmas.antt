@@ -125,9 +125,9 @@ tells_from old p there new c none bytes dropped is run laws empty polls why fetc
 
 pub stops_from : (old p new : AdapterState LiveState) (c : Coming) (none bytes : List ℕ) (fault : AdapterFault) → p ≡ over_mail (with_coming c no_mail) old → old.fault ≡ None → none ≡ []
     → (p.fault ≡ None → StopsAfter shown_live FollowsLive p (to_poll_next 0) [] none fault new bytes) → StopsAfter shown_live FollowsLive (over_mail (with_coming c no_mail) old) (to_poll_next 0) [] [] fault new bytes
-stops_from old p new c none bytes fault is open empty stops =
+stops_from old p new c none bytes fault is unbroken empty stops =
     subst (λ (z : List ℕ). StopsAfter shown_live FollowsLive (over_mail (with_coming c no_mail) old) (to_poll_next 0) [] z fault new bytes) empty
-    (subst (λ (a : AdapterState LiveState). StopsAfter shown_live FollowsLive a (to_poll_next 0) [] none fault new bytes) is (stops (ap (λ (a : AdapterState LiveState). a.fault) is ∙ open)))
+    (subst (λ (a : AdapterState LiveState). StopsAfter shown_live FollowsLive a (to_poll_next 0) [] none fault new bytes) is (stops (ap (λ (a : AdapterState LiveState). a.fault) is ∙ unbroken)))
 
 pub answers_from : (old there : AdapterState LiveState) (body none bytes : List ℕ) (ended : Bool) → none ≡ [] → AnswersPiece shown_live FollowsLive old (frame_of body) none there bytes ended
     → (new : AdapterState LiveState) (acts : List HostAct) → acts ≡ there.debuggee.mail.acts → new ≡ over_mail no_mail there → AnswersFed old body bytes acts new
@@ -141,7 +141,7 @@ answers_from old there body none bytes ended empty answers new acts are fetched 
 
 pub breaks_from : (old new : AdapterState LiveState) (body none bytes : List ℕ) (fault : AdapterFault) → old.fault ≡ None → none ≡ [] → (old.fault ≡ None → StopsAfter shown_live FollowsLive old to_take (frame_of body) none fault new bytes)
     → StopsAfter shown_live FollowsLive old to_take (frame_of body) [] fault new bytes
-breaks_from old new body none bytes fault open empty stops = subst (λ (z : List ℕ). StopsAfter shown_live FollowsLive old to_take (frame_of body) z fault new bytes) empty (stops open)
+breaks_from old new body none bytes fault unbroken empty stops = subst (λ (z : List ℕ). StopsAfter shown_live FollowsLive old to_take (frame_of body) z fault new bytes) empty (stops unbroken)
 
 pub ok_by_two : {A E : Type 0} {P S : A → Type 0} {Q : Type 0} (r : Result A E) → ((x : A) → P x → Q → S x) → IfOk r P → OnOk r Q → IfOk r S
 ok_by_two (Ok x) f p q = f x p q

@@ -99,16 +99,16 @@ stopped h k body bytes before after fault stops hands = record { bytes = bytes; 
 
 -- ---- what happened is told, or the adapter is closed by it
 
-pub told : (h k : HostState) (c : Coming) (dropped : Option Drop) (bytes before after : List ℕ) → TellsFed h.adapter c bytes dropped k.adapter
-    → ((outs : List Message) → bytes ≡ bytes_of outs → after ≡ before ++ message_lines outs) → SameButAdapter h k → TellsIt h c dropped before after k
-told h k c dropped bytes before after fed hands same = record { bytes = bytes; fed = fed; lines = hands fed.polls.outs fed.polls.appended; same = same }
+pub told : (h k : HostState) (c : Coming) (why : Option Drop) (bytes before after : List ℕ) → TellsFed h.adapter c bytes why k.adapter
+    → ((outs : List Message) → bytes ≡ bytes_of outs → after ≡ before ++ message_lines outs) → SameButAdapter h k → TellsIt h c why before after k
+told h k c why bytes before after fed hands same = record { bytes = bytes; fed = fed; lines = hands fed.polls.outs fed.polls.appended; same = same }
 
 -- the mail that it had is none
 given_between : (h : HostState) (c : Coming) → Laws → IsGoing h → IsBetween (over_mail (with_coming c no_mail) h.adapter)
 given_between h c laws going = laws.exchanged h.adapter (over_mail (with_coming c no_mail) h.adapter) (between h going) (record { shows_the_same = refl; all_else = refl })
 
-pub polls_on : (h k : HostState) (c : Coming) (dropped : Option Drop) (bytes : List ℕ) → IsGoing h → Laws → TellsFed h.adapter c bytes dropped k.adapter → k.limits ≡ h.limits → IsGoing k
-polls_on h k c dropped bytes going laws fed limits =
+pub polls_on : (h k : HostState) (c : Coming) (why : Option Drop) (bytes : List ℕ) → IsGoing h → Laws → TellsFed h.adapter c bytes why k.adapter → k.limits ≡ h.limits → IsGoing k
+polls_on h k c why bytes going laws fed limits =
     goes_fetched h k fed.there laws going fed.polls.runs_on.limits limits (laws.told (over_mail (with_coming c no_mail) h.adapter) fed.there [] bytes (given_between h c laws going) fed.polls) fed.fetched
 
 pub stopped_telling : (h k : HostState) (c : Coming) (bytes before after : List ℕ) (fault : AdapterFault) → StopsAfter shown_live FollowsLive (over_mail (with_coming c no_mail) h.adapter) (to_poll 0) [] [] fault k.adapter bytes
@@ -142,12 +142,12 @@ pub stopped_at : (o h k : HostState) (body bytes before after : List ℕ) (fault
 stopped_at o h k body bytes before after fault closed e f stops hands =
     subst (λ (z : AdapterFault). StopsMessage h body before after k z) (sym f) (subst (λ (z : HostState). StopsMessage z body before after k fault) e (stopped o k body bytes before after fault stops hands))
 
-pub told_at : (o h k : HostState) (c : Coming) (dropped : Option Drop) (bytes before after : List ℕ) → o ≡ h → TellsFed o.adapter c bytes dropped k.adapter
-    → ((outs : List Message) → bytes ≡ bytes_of outs → after ≡ before ++ message_lines outs) → SameButAdapter o k → TellsIt h c dropped before after k
-told_at o h k c dropped bytes before after e fed hands same = subst (λ (z : HostState). TellsIt z c dropped before after k) e (told o k c dropped bytes before after fed hands same)
+pub told_at : (o h k : HostState) (c : Coming) (why : Option Drop) (bytes before after : List ℕ) → o ≡ h → TellsFed o.adapter c bytes why k.adapter
+    → ((outs : List Message) → bytes ≡ bytes_of outs → after ≡ before ++ message_lines outs) → SameButAdapter o k → TellsIt h c why before after k
+told_at o h k c why bytes before after e fed hands same = subst (λ (z : HostState). TellsIt z c why before after k) e (told o k c why bytes before after fed hands same)
 
-pub polls_on_at : (o h k : HostState) (c : Coming) (dropped : Option Drop) (bytes : List ℕ) → o ≡ h → IsGoing h → Laws → TellsFed o.adapter c bytes dropped k.adapter → k.limits ≡ o.limits → IsGoing k
-polls_on_at o h k c dropped bytes e going laws fed limits = polls_on o k c dropped bytes (subst IsGoing (sym e) going) laws fed limits
+pub polls_on_at : (o h k : HostState) (c : Coming) (why : Option Drop) (bytes : List ℕ) → o ≡ h → IsGoing h → Laws → TellsFed o.adapter c bytes why k.adapter → k.limits ≡ o.limits → IsGoing k
+polls_on_at o h k c why bytes e going laws fed limits = polls_on o k c why bytes (subst IsGoing (sym e) going) laws fed limits
 
 pub stopped_telling_at : (o h k : HostState) (c : Coming) (bytes before after : List ℕ) (fault closed : AdapterFault) → o ≡ h → closed ≡ fault → StopsAfter shown_live FollowsLive (over_mail (with_coming c no_mail) o.adapter) (to_poll 0) [] [] fault k.adapter bytes
     → ((outs : List Message) → bytes ≡ bytes_of outs → after ≡ before ++ message_lines outs) → StopsTelling h c before after k closed

@@ -1,5 +1,5 @@
 //! A host's lines, one after the other.
-ghost use Rattle.std.specs.Prelude.{◌≡◌, ◌≢◌, ◌++◌, List, IfOk, drop};
+ghost use Rattle.std.specs.Prelude.{◌≡◌, ◌≢◌, ◌++◌, List, IfErr, IfOk, OnOk, drop};
 ghost use Rattle.dap_envelope.specs.declared.message.Message.{Message};
 ghost use Rattle.dap_line.specs.Written.{act_lines, message_lines};
 ghost use Rattle.dap_outbox.specs.Draft.{bytes_of};
@@ -487,8 +487,10 @@ impl Host {
         ensures stops { IfErr result (λ fault. fault ≢ AdapterFault.OutOfMemory → StopsTelling self.old coming out.old.items out.new.items self.new fault) }
     {
         let dropped = self.tell(alloc, coming, out)?;
-        self.refuse_dropped(dropped, out)?;
-        Ok(dropped)
+        match self.refuse_dropped(dropped, out) {
+            Ok(()) => Ok(dropped),
+            Err(fault) => Err(fault),
+        }
     }
 
     /// Lets the adapter tell what happened: why it is dropped, if it is.

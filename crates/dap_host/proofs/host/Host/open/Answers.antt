@@ -1,7 +1,5 @@
-use Rattle.std.proofs.Common.{◌≡◌, Err, refl, rules, sym, subst, ◌∙◌}
-use Rattle.std.specs.Prelude.{IfErr}
-use Rattle.dap_recording.specs.declared.reading.RecordingFault.TheVariants.{OutOfMemory}
-use Rattle.dap_line.specs.Moments.{FileRefused}
+use Rattle.std.proofs.Common.{refl, ◌∙◌}
+use Rattle.std.proofs.lemmas.Result.{err_from_is_err_and}
 use Rattle.dap_host.proofs.GoingLemmas.{fresh_going}
 use Rattle.dap_host.proofs.LineLemmas.{bad_base}
 use Rattle.dap_host.proofs.host.Host.open.Goals as goal
@@ -10,9 +8,7 @@ pub returns-in-Err-clause-refused : goal.returns-in-Err-clause-refused
 returns-in-Err-clause-refused c = bad_base c.args.bytes.now c.in_ok-told.told c.in-Err.fault c.in_ok-told.ensures.sources c.in-Err.ensures.fails
 
 pub returns-in_err-adapter-clause-refused : goal.returns-in_err-adapter-clause-refused
-returns-in_err-adapter-clause-refused c =
-    let is : c.from_residual-in_err-adapter.result ≡ Err OutOfMemory = search rules in
-    subst (λ r. IfErr r (FileRefused c.args.bytes.now)) (sym is) tt
+returns-in_err-adapter-clause-refused c = let p = err_from_is_err_and c.from_residual-in_err-adapter.result c.from_residual-in_err-adapter.ensures.1 in rw (p.1, p.2) tt
 
 pub returns-clause-fresh : goal.returns-clause-fresh
 returns-clause-fresh c = record {
