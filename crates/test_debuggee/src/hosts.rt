@@ -113,6 +113,9 @@ const RECORDED: &str =
 
 /// Whether its sources, and once more those behind them, are shown so.
 fn are_sources(alloc: Global, sources: &Sources) -> bool {
+    if sources.len() != 1 {
+        return false;
+    }
     let Ok(two) = sources.with(alloc, sources) else {
         return false;
     };
