@@ -4,23 +4,23 @@ use Rattle.std.specs.Prelude.{ℕ, List, [], ◌∷◌, ◌++◌, codes}
 use Rattle.serde_json.specs.Data.{Data}
 use Rattle.dap_command.specs.Key.{text_of}
 use Rattle.dap_command.specs.declared.key.Key.{Key}
-use Rattle.dap_body.specs.Row.{Row as Fields, object_of, text, whole, tree}
+use Rattle.dap_body.specs.Row.{Row, object_of, text, whole, tree}
 use Rattle.dap_body.specs.declared.failure.Failure.{Failure}
 use Rattle.dap_body.specs.declared.failure.Failure.TheVariants.{NotInitialized, AlreadyInitialized, UnknownCommand, Unsupported, BadArguments, WrongPhase, NotStopped, UnknownThread, StaleReference, UnknownSource, Debuggee, TooManyBreakpoints, TooManyReferences, ReferencesExhausted, TooLarge, Busy, Cancelled, TerminalRefused}
 
 -- a failure's number, its short name and its text
-pub record Row : Type 0 where
+pub record FailureRow : Type 0 where
   pub id : ℕ
   pub name : List ℕ
   pub format : List ℕ
 
-abbrev pub failure_row : ℕ → List ℕ → List ℕ → Row
+abbrev pub failure_row : ℕ → List ℕ → List ℕ → FailureRow
 failure_row id name format = record { id = id; name = name; format = format }
 
 abbrev pub bad_argument_format : Key → List ℕ
 bad_argument_format key = codes "The argument " ++ (text_of key ++ codes " is missing or malformed.")
 
-abbrev pub row_of : Failure → Row
+abbrev pub row_of : Failure → FailureRow
 row_of NotInitialized = failure_row 1001 (codes "notInitialized") (codes "The session is not initialized.")
 row_of AlreadyInitialized = failure_row 1002 (codes "alreadyInitialized") (codes "The session is already initialized.")
 row_of UnknownCommand = failure_row 1003 (codes "unknownCommand") (codes "The command is not known.")
@@ -47,10 +47,10 @@ failures_in_order key =
     ∷ Debuggee ∷ TooManyBreakpoints ∷ TooManyReferences ∷ ReferencesExhausted ∷ TooLarge ∷ []
 
 -- the body of an ErrorResponse
-abbrev pub cause_row : ℕ → List ℕ → Fields
+abbrev pub cause_row : ℕ → List ℕ → Row
 cause_row id format = (codes "format", text format) ∷ (codes "id", whole id) ∷ []
 
-abbrev pub error_row : ℕ → List ℕ → Fields
+abbrev pub error_row : ℕ → List ℕ → Row
 error_row id format = (codes "error", tree (object_of (cause_row id format))) ∷ []
 
 abbrev pub error_body : ℕ → List ℕ → Data
