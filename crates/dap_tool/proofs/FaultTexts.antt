@@ -11,10 +11,6 @@ pub is_on : (b : Bool) → not b ≡ false → b ≡ true
 is_on true e = refl
 is_on false e = absurd (cc e)
 
-pub is_off : (b : Bool) → not b ≡ true → b ≡ false
-is_off true e = absurd (cc e)
-is_off false e = refl
-
 module _ (number : ℕ) (kind : Kind) (fault : Fault) where
   abbrev by_number : List ℕ
   by_number = codes "line " ++ decimal number ++ codes " rule 8\n"
