@@ -398,7 +398,6 @@ sources_are_few k d given sources few told =
     let most = few_in_count k d given few in
     omega (arith, counted.1, most)
 
--- OLD
 -- one moment, read over sources that hold
 pub old_alone_holds : (sources : List RecordedSource) (d : Data) (r : Recording) → alone sources d ≡ Ok r → length sources ≤ 65536 → list_all is_counted sources ≡ true → IsRecording r
 unfolding alone
@@ -427,7 +426,6 @@ over_these these d (Ok r) sources same is gives =
     old_alone_holds sources d r gives (subst (λ (xs : List RecordedSource). length xs ≤ 65536) (sym same) is.sources) (subst (λ (xs : List RecordedSource). list_all is_counted xs ≡ true) (sym same) is.lines)
 over_these these d (Err fault) sources same is gives = tt
 
--- END
 pub read_holds : (d : Data) (result : Result Recording RecordingFault) → Gives result (recording_of d) → IfOk result (λ r. IsRecording r)
 read_holds d (Ok r) gives = is_read d r gives
 read_holds d (Err fault) gives = tt

@@ -332,7 +332,7 @@ read_moment sources d = do
   moment ← moment_of teller.Host sources d none_numbered
   Ok (numbered_alone (length sources) moment)
 
--- OLD
+-- the recording of one moment that a host tells, over sources that were read
 unfoldable pub alone : List RecordedSource → Data → Read Recording
 alone sources d = do
   moment ← moment_of teller.Host sources d none_numbered
@@ -342,8 +342,6 @@ abbrev pub alone_over : Data → Data → Read Recording
 alone_over sources d = do
   read ← sources_of sources
   alone read d
-
--- END
 
 abbrev pub or_fault : {A : Type 0} → Read A → Result A RecordingFault
 or_fault (Ok r) = Ok r

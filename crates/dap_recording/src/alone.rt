@@ -39,7 +39,6 @@ impl Snapshot {
     }
 }
 
-// OLD
 impl Recording {
     /// The recording of one moment over sources, both as JSON: what stands in an object at `moments` and at `sources`. Its exit
     /// code is 0.
@@ -72,4 +71,3 @@ impl Recording {
         rows::alone(texts, sources, moment.value())
     }
 }
-// END

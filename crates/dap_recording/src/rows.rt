@@ -540,7 +540,6 @@ pub(crate) fn moment_alone(
     Ok(numbers.into_snapshot(moment, sources.len()))
 }
 
-// OLD
 /// The recording of one moment over sources.
 #[tactic(auto, unfolding(crate::specs::Reading::alone))]
 pub(crate) fn alone(
@@ -556,4 +555,3 @@ pub(crate) fn alone(
     moments.push(moment)?;
     Ok(numbers.into_recording(0, sources, moments))
 }
-// END
