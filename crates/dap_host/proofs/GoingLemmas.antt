@@ -59,7 +59,7 @@ goes h k going session limits at fetched = record {
 -- once its mail is fetched
 goes_fetched : (h k : HostState) (there : AdapterState LiveState) → Laws → IsGoing h → there.session.limits ≡ h.adapter.session.limits → k.limits ≡ h.limits → IsBetween there → k.adapter ≡ over_mail no_mail there → IsGoing k
 goes_fetched h k there laws going session limits at fetched =
-    let now : IsBetween k.adapter = subst IsBetween (sym fetched) (laws.exchanged there (over_mail no_mail there) at (record { shows_the_same = refl; all_else = refl })) in
+    let now : IsBetween k.adapter = subst (λ (a : AdapterState LiveState). IsBetween a) (sym fetched) (laws.exchanged there (over_mail no_mail there) at (record { shows_the_same = refl; all_else = refl })) in
     goes h k going (ap (λ (a : AdapterState LiveState). a.session.limits) fetched ∙ session) limits now (ap (λ (a : AdapterState LiveState). a.debuggee.mail) fetched)
 
 -- a host to which no line came
