@@ -23,6 +23,7 @@ pub mod EffectRows
 pub mod OrderedAnswers
 pub mod Offers
 pub mod GivenBodies
+pub mod Bodies
 pub mod Gives
 pub mod States
 pub mod Placed

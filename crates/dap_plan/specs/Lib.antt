@@ -16,6 +16,7 @@ pub mod Changing
 pub mod RefusalLaws
 pub mod StaleLaws
 pub mod OfferLaws
+pub mod BodyLaws
 pub mod OrderLaws
 pub mod GivenLaws
 pub mod StateLaws

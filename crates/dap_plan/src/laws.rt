@@ -1,5 +1,6 @@
 //! Laws of the definitions, each on a function with nothing to run.
 ghost use Rattle.dap_plan.specs.Answering.{EachStepGoesWell};
+ghost use Rattle.dap_plan.specs.BodyLaws.{SuccessesHaveTheirBodies};
 ghost use Rattle.dap_plan.specs.GivenLaws.{EachAnswerGivesLive};
 ghost use Rattle.dap_plan.specs.Laws.{EachStepGoesOn};
 ghost use Rattle.dap_plan.specs.OrderLaws.{FailuresComeInOrder, RefusalsComeInOrder};
@@ -10,6 +11,7 @@ ghost use Rattle.dap_plan.specs.StaleLaws.{DeadNumbersAreStale};
 ghost use Rattle.dap_plan.specs.StateLaws.{EachStepKeepsState};
 ghost use Rattle.dap_plan.specs.Within.{EachStepStaysWithin};
 
+use dap_decision::laws::queries_have_their_bodies;
 use dap_history::laws::histories_grow;
 
 /// Each step goes on as its history does, whatever the debuggee replies: a request is kept exactly while it is
@@ -44,6 +46,14 @@ pub fn references_are_apart()
 pub fn offers_are_served()
     ensures { OffersAreServed }
 {}
+
+/// A served request that succeeds has a body just where the row of its command says so, whatever the debuggee shows and
+/// replies: an effect, a query or a change of a new command that has none of its own is refused here.
+pub fn successes_have_their_bodies()
+    ensures { SuccessesHaveTheirBodies }
+{
+    queries_have_their_bodies();
+}
 
 /// A served request with good arguments whose number died, or names nothing of its kind, is answered `staleReference` where
 /// the debuggee is stopped, whatever steps came since it died, and nothing else is done.
