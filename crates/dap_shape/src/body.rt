@@ -39,7 +39,13 @@ fn list_of_row(
         return Err(Invalid);
     };
     numbers.clear();
-    column(reader, type_name, objects.number_key(), objects.range(), numbers)?;
+    column(
+        reader,
+        type_name,
+        objects.number_key(),
+        objects.range(),
+        numbers,
+    )?;
     seen[place] = true;
     Ok(())
 }
