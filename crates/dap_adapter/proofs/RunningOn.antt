@@ -291,7 +291,6 @@ module _ {D : Type 0} (shown : D → Shown) (follows : Goes D) where
         stands = one_more old m n s used [] used h outs nows (to_poll 0) there.stands there.limits r (append-nil (s ++ used));
         limits = r.limits ∙ there.limits;
       }
-
   in_turn old s h x _ _ _ (exchanged used outs m n y e) = exchanged_more old m n (s ++ used) h outs (in_turn old s h x used outs m y) e
 
   pub calls_add_up : CallsInTurnAddUp shown follows

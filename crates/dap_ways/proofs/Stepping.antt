@@ -395,24 +395,24 @@ module _ {D : Type 0} (split : EachStreamHasOneSplit) (moves : MovesInOrder) (sh
       let a : AdapterState D = record old.adapter { debuggee = after.debuggee } in
       let w : ByteWorld D = adapter_wrote a [] old in
       let is : Is w =
-        is-one w g.up g.down g.said
-        (goes (with_messages old g.up g.down g.said) (with_messages w g.up g.down g.said) g.schedule (by_exchanging (record { shows_the_same = e.shows_the_same; all_else = refl }))) (record {
-          adapter_used = k.adapter_used;
-          adapter_history = k.adapter_history;
-          adapter = record { no_fault = x.no_fault; received = x.received; session = x.session; within = x.within; bounds = x.bounds };
-          adapter_limits = k.adapter_limits;
-          client_used = k.client_used;
-          client_history = k.client_history;
-          client = k.client;
-          client_limits = k.client_limits;
-          up_is = k.up_is;
-          down_is = subst (λ (z : List ℕ). AreUnderWay limits old.client.intake k.client_used z (ins_of k.client_history) g.down) (sym (append-nil old.down)) k.down_is;
-          up_said = k.up_said;
-          down_said = k.down_said;
-          client_said = k.client_said;
-          adapter_said = k.adapter_said;
-          written_is = append-nil old.written ∙ k.written_is;
-        }) in
+      is-one w g.up g.down g.said
+      (goes (with_messages old g.up g.down g.said) (with_messages w g.up g.down g.said) g.schedule (by_exchanging (record { shows_the_same = e.shows_the_same; all_else = refl }))) (record {
+        adapter_used = k.adapter_used;
+        adapter_history = k.adapter_history;
+        adapter = record { no_fault = x.no_fault; received = x.received; session = x.session; within = x.within; bounds = x.bounds };
+        adapter_limits = k.adapter_limits;
+        client_used = k.client_used;
+        client_history = k.client_history;
+        client = k.client;
+        client_limits = k.client_limits;
+        up_is = k.up_is;
+        down_is = subst (λ (z : List ℕ). AreUnderWay limits old.client.intake k.client_used z (ins_of k.client_history) g.down) (sym (append-nil old.down)) k.down_is;
+        up_said = k.up_said;
+        down_said = k.down_said;
+        client_said = k.client_said;
+        adapter_said = k.adapter_said;
+        written_is = append-nil old.written ∙ k.written_is;
+      }) in
       subst (λ (z : AdapterState D). Is (adapter_wrote z [] old)) (sym e.all_else) is
 
   -- ---- any step, and any schedule

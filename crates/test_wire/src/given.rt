@@ -62,7 +62,11 @@ fn gathers_holders(rt: HostRuntime) {
         check(&rt, given.numbers(*objects) == *holders, body);
     }
     given.clear();
-    check(&rt, given.numbers(GivenObjects::Variables).is_empty(), "cleared");
+    check(
+        &rt,
+        given.numbers(GivenObjects::Variables).is_empty(),
+        "cleared",
+    );
     drop(given);
     drop(scratch);
 }
