@@ -11,7 +11,7 @@ use Rattle.dap_host.proofs.host.Host.hear_told.Goals as goal
 
 pub returns-in-Ok-clause-stops : goal.returns-in-Ok-clause-stops
 returns-in-Ok-clause-stops c = subst (λ (h : HostState). IfErr c.hear_coming.result (λ fault. fault ≢ OutOfMemory → (coming : Coming) × HearsTold h c.args.text.now coming × StopsTelling h coming c.args.out.now.items c.hear_coming.new.out.items c.hear_coming.new.self fault))
-    c.in-Ok.ensures.same (err_weaker c.hear_coming.result (λ fault stops some. (c.in-Ok.coming, stops some)) c.hear_coming.ensures.stops)
+    c.in-Ok.ensures.same (err_weaker c.hear_coming.result (λ fault stops some. (c.in-Ok.coming, (stops some).0, (stops some).1)) c.hear_coming.ensures.stops)
 
 pub returns-in-Err-Refused-clause-hears : goal.returns-in-Err-Refused-clause-hears
 returns-in-Err-Refused-clause-hears c = let w = c.in-Err-Refused.why-is in on_ok_weaker c.refuse.result (λ line.
