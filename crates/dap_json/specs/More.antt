@@ -1,6 +1,8 @@
 -- Members that stand beside others in an object.
--- RFC 8259, "Objects". How deep they may nest is this profile's choice, so that a body with them still nests at most 120 deep.
-use Rattle.std.specs.Prelude.{ℕ, Bool, List, [], ◌∷◌, Option, Some, None, IsTrue, if◌then◌else◌}
+-- RFC 8259, "Objects". The order of keys, and how deep the members may nest, is this profile's choice: a body with them still nests at most 120 deep.
+use Rattle.std.specs.Prelude.{ℕ, ◌&&◌, Bool, true, false, List, [], ◌∷◌, Option, Some, None, IsTrue, if◌then◌else◌}
+use Rattle.std.specs.Ordering.{nat_cmp, match_ordering}
+use Rattle.std.specs.Cmp.Lexicographic.{slice_cmp}
 use Rattle.serde_json.specs.Data.{Data, null, boolean, number, string, array, object, Members, no_members, member}
 use Rattle.dap_json.specs.Sound.{IsSound}
 use Rattle.dap_json.specs.Writable.{is_writable}
@@ -21,20 +23,30 @@ object_with ms = object (members_of ms)
 abbrev pub more_nesting : ℕ
 more_nesting = 100
 
--- without floats, and nested at most so deep
-abbrev pub is_more : Data → Bool
-is_more d = is_writable more_nesting d
+-- the key stands before each of theirs in byte order
+abbrev pub is_before_each : List ℕ → List Member → Bool
+is_before_each key [] = true
+is_before_each key (m ∷ ms) = match_ordering (slice_cmp nat_cmp key m.key) true false false && is_before_each key ms
 
--- the members of an object, where they can stand beside others; none of what is no object
+-- the keys are in byte order, none of them twice
+abbrev pub are_in_order : List Member → Bool
+are_in_order [] = true
+are_in_order (m ∷ ms) = is_before_each m.key ms && are_in_order ms
+
+-- in order, without floats, and nested at most so deep
+abbrev pub are_more : List Member → Bool
+are_more ms = are_in_order ms && is_writable more_nesting (object_with ms)
+
+-- the members of an object that can stand beside others; none of what is no object
 abbrev pub more_of : Data → Option (List Member)
 more_of null = None
 more_of (boolean b) = None
 more_of (number n) = None
 more_of (string s) = None
 more_of (array ds) = None
-more_of (object ms) = if is_more (object ms) then Some (members_in ms) else None
+more_of (object ms) = if is_writable more_nesting (object ms) then Some (members_in ms) else None
 
--- what holds of members that can: the keys are in byte order, none of them twice
+-- what holds of members that can
 pub record IsMore (ms : List Member) : Type 0 where
-  pub plain : IsTrue (is_more (object_with ms))
+  pub are_more : IsTrue (are_more ms)
   pub sound : IsSound (object_with ms)
