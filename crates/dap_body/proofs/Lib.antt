@@ -1,6 +1,8 @@
 pub mod Examples
 pub mod Tokens
 pub mod Rows
+pub mod Among
+pub mod Standing
 mod OfParts
 pub mod PlainBodies
 pub mod GivenNumbers

@@ -1,6 +1,8 @@
 pub mod Adds
 pub mod Failure
 pub mod Row
+pub mod Beside
+pub mod BesideLaws
 pub mod ResponseBody
 pub mod EventBody
 pub mod Body

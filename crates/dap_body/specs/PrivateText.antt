@@ -1,10 +1,12 @@
 -- What a writer is given for a row of fields.
-use Rattle.std.specs.Prelude.{ℕ, List, [], ◌∷◌, ◌++◌, Option, Some, None, Bool, true, false, ⊤, IsUtf8, IsTrue}
+use Rattle.std.specs.Prelude.{◌≡◌, ℕ, List, [], ◌∷◌, ◌++◌, Option, Some, None, Bool, true, false, ⊤, IsUtf8, IsTrue}
 use Rattle.json.specs.Token.{Token, key}
 use Rattle.json.specs.Tree.{json_tokens}
 use Rattle.serde_json.specs.Data.{Data}
-use Rattle.serde_json.specs.Written.{outline}
+use Rattle.serde_json.specs.Written.{outline, members_have_float}
 use Rattle.dap_json.specs.Sound.{IsSound}
+use Rattle.dap_json.specs.More.{members_of}
+use Rattle.dap_json.specs.declared.more.Member.{Member}
 use Rattle.dap_body.specs.Row.{Field, Row, value_data, is_in_order}
 use Rattle.dap_body.specs.declared.body.Body.{Body}
 use Rattle.dap_body.specs.declared.body.Body.TheVariants.{Initialize}
@@ -23,6 +25,10 @@ wrote field ts = ts ++ member_tokens field.0 (value_data field.1)
 abbrev pub wrote_row : Row → List Token → List Token
 wrote_row [] ts = ts
 wrote_row (field ∷ row) ts = wrote_row row (wrote field ts)
+
+-- of members that are written among them
+abbrev pub HasNoFloats : List Member → Type 0
+HasNoFloats ms = members_have_float (members_of ms) ≡ false
 
 abbrev pub IsSoundIfAny : Option Data → Type 0
 IsSoundIfAny None = ⊤

@@ -1,5 +1,6 @@
 //! Laws of the definitions, each on a function with nothing to run.
 ghost use Rattle.dap_body.specs.GivenNumbers.{BodiesGiveTheirNumbers};
+ghost use Rattle.dap_body.specs.BesideLaws.{MoreIsBeside};
 ghost use Rattle.dap_body.specs.PlainBodies.{EventBodiesArePlain, FailureBodiesArePlain, ResponseBodiesArePlain};
 ghost use Rattle.dap_body.specs.ReadAgain.{WhatIsWrittenIsReadAgain};
 
@@ -21,4 +22,9 @@ pub fn bodies_give_their_numbers()
 /// written, every element in its place, and every member of it.
 pub fn what_is_written_is_read_again()
     ensures { WhatIsWrittenIsReadAgain }
+{}
+
+/// Members that stand beside a row's own fields leave each of these as it was, also one that is absent, and each is there.
+pub fn more_is_beside()
+    ensures { MoreIsBeside }
 {}

@@ -5,6 +5,7 @@
 //! envelope of a message, nor header fields.
 #![tactic(auto)]
 
+mod beside;
 mod body;
 mod elements;
 mod event;

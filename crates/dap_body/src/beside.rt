@@ -1,0 +1,85 @@
+//! Members that stand beside an object's own fields, each written at its place among them.
+ghost use Rattle.std.specs.Prelude.{◌≡◌, ◌∷◌, [], IfOk, OnOk};
+ghost use Rattle.dap_body.specs.Beside.{field_of, fields_of, before_key, after_key, standing};
+ghost use Rattle.dap_body.specs.PrivateText.{wrote, wrote_row, HasNoFloats};
+
+use dap_json::written::write_value;
+use dap_json::{Member, More};
+use json::Writer;
+use std::alloc::AllocError;
+use std::cmp::Ordering;
+
+/// The members, to be written from the first on.
+#[inline(always)]
+pub(crate) fn standing(more: &More) -> &[Member]
+    ensures members { result.now ≡ standing more.now }
+    ensures plain { HasNoFloats result.now }
+{
+    more.is_more();
+    more.as_slice()
+}
+
+#[tactic(auto, unfolding(crate::specs::PrivateText::wrote))]
+fn put_member(out: &mut Writer, member: &Member) -> Result<(), AllocError>
+    requires { HasNoFloats (member.now ∷ []) }
+    ensures adds { OnOk result (out.new.tokens ≡ wrote (field_of member.now) out.old.tokens) }
+    ensures before { out.new.before ≡ out.old.before }
+{
+    out.key(member.key.as_str())?;
+    write_value(out, member.value.value())
+}
+
+/// Writes those that come before a key, and gives those that come behind it. The one of that key is left out.
+fn put_some_before<'m>(
+    out: &mut Writer,
+    key: &str,
+    members: &'m [Member],
+) -> Result<&'m [Member], AllocError>
+    requires { HasNoFloats members.now }
+    ensures adds { OnOk result (out.new.tokens ≡ wrote_row (fields_of (before_key key.now members.now)) out.old.tokens) }
+    ensures left { IfOk result (λ left. left.now ≡ after_key key.now members.now) }
+    ensures plain { IfOk result (λ left. HasNoFloats left.now) }
+    ensures before { out.new.before ≡ out.old.before }
+{
+    let mut left = members;
+    while let Some((member, rest)) = left.split_first() {
+        match member.key.as_str().cmp(key) {
+            Ordering::Less => put_member(out, member)?,
+            Ordering::Equal => {}
+            Ordering::Greater => return Ok(left),
+        }
+        left = rest;
+    }
+    Ok(left)
+}
+
+/// The same. Where there are none, nothing is called.
+#[inline(always)]
+pub(crate) fn put_before<'m>(
+    out: &mut Writer,
+    key: &str,
+    members: &'m [Member],
+) -> Result<&'m [Member], AllocError>
+    requires { HasNoFloats members.now }
+    ensures adds { OnOk result (out.new.tokens ≡ wrote_row (fields_of (before_key key.now members.now)) out.old.tokens) }
+    ensures left { IfOk result (λ left. left.now ≡ after_key key.now members.now) }
+    ensures plain { IfOk result (λ left. HasNoFloats left.now) }
+    ensures before { out.new.before ≡ out.old.before }
+{
+    if members.is_empty() {
+        return Ok(members);
+    }
+    put_some_before(out, key, members)
+}
+
+/// Writes all that are left.
+pub(crate) fn put_left(out: &mut Writer, members: &[Member]) -> Result<(), AllocError>
+    requires { HasNoFloats members.now }
+    ensures adds { OnOk result (out.new.tokens ≡ wrote_row (fields_of members.now) out.old.tokens) }
+    ensures before { out.new.before ≡ out.old.before }
+{
+    for member in members {
+        put_member(out, member)?;
+    }
+    Ok(())
+}
