@@ -41,7 +41,7 @@ among-none (f ∷ row) = ap (λ r. f ∷ r) (among-none row)
 -- ---- where a key comes
 
 -- what the first of the members makes of the rest
-abbrev placed : Field → Row → Member → List Member → Ordering → Row
+abbrev pub placed : Field → Row → Member → List Member → Ordering → Row
 placed f row m ms o = match_ordering o (field_of m ∷ among (f ∷ row) ms) (among (f ∷ row) ms) (f ∷ among row (m ∷ ms))
 
 among-by : (f : Field) (row : Row) (m : Member) (ms : List Member) (o : Ordering)
@@ -50,7 +50,7 @@ among-by f row m ms Less = refl
 among-by f row m ms Equal = refl
 among-by f row m ms Greater = refl
 
-among-step : (f : Field) (row : Row) (m : Member) (ms : List Member) → among (f ∷ row) (m ∷ ms) ≡ placed f row m ms (cmp m.key f.0)
+pub among-step : (f : Field) (row : Row) (m : Member) (ms : List Member) → among (f ∷ row) (m ∷ ms) ≡ placed f row m ms (cmp m.key f.0)
 among-step f row m ms = among-by f row m ms (cmp m.key f.0)
 
 -- ---- order

@@ -7,7 +7,8 @@ use Rattle.serde_json.specs.Written.{compact_text}
 use Rattle.dap_json.specs.Put.{whole_number}
 use Rattle.dap_command.specs.declared.key.Key.TheVariants as key
 use Rattle.dap_body.specs.Failure.{row_of, failures_in_order, failure_body}
-use Rattle.dap_body.specs.ResponseBody.{set_breakpoints_body, threads_body, continue_body, stack_trace_body, scopes_body, variables_body, evaluate_body, source_body, loaded_sources_body}
+use Rattle.dap_body.specs.ResponseBody.{set_breakpoints_body, threads_body, continue_body, stack_trace_body, scopes_body, variables_body, evaluate_body, set_variable_body, source_body, loaded_sources_body}
+use Rattle.dap_json.specs.declared.more.Member.{Member}
 use Rattle.dap_body.specs.EventBody.{output_body, stopped_body, continued_body, exited_body}
 use Rattle.dap_body.specs.declared.failure.Failure.TheVariants.{NotInitialized, BadArguments, NotStopped, Debuggee, TooLarge, Busy, Cancelled}
 use Rattle.dap_body.specs.declared.response.Source.{Source}
@@ -66,7 +67,7 @@ no_lines = refl
 no_threads : threads_body [] ≡ object (member (codes "threads") (array no_items) no_members)
 no_threads = refl
 
-thread_below_0 : compact_text (threads_body (record { id = negsuc 6; name = codes "m" } ∷ [])) ≡ codes "{\"threads\":[{\"id\":-7,\"name\":\"m\"}]}"
+thread_below_0 : compact_text (threads_body (record { id = negsuc 6; name = codes "m"; more = [] } ∷ [])) ≡ codes "{\"threads\":[{\"id\":-7,\"name\":\"m\"}]}"
 unfolding escape_byte digits
 thread_below_0 = refl
 
@@ -75,16 +76,16 @@ unfolding escape_byte
 all_go_on = refl
 
 abbrev with_a_path : Source
-with_a_path = record { name = codes "a.c"; path = Some (codes "/a.c"); source_reference = Some 1 }
+with_a_path = record { name = codes "a.c"; path = Some (codes "/a.c"); source_reference = Some 1; more = [] }
 
 abbrev without_a_path : Source
-without_a_path = record { name = codes "b.c"; path = None; source_reference = Some 2 }
+without_a_path = record { name = codes "b.c"; path = None; source_reference = Some 2; more = [] }
 
 path_is_written : compact_text (loaded_sources_body (with_a_path ∷ [])) ≡ codes "{\"sources\":[{\"name\":\"a.c\",\"path\":\"/a.c\",\"sourceReference\":1}]}"
 unfolding escape_byte digits
 path_is_written = refl
 
-file_on_disk_has_no_reference : compact_text (loaded_sources_body (record { name = codes "a.c"; path = Some (codes "/a.c"); source_reference = None } ∷ [])) ≡ codes "{\"sources\":[{\"name\":\"a.c\",\"path\":\"/a.c\"}]}"
+file_on_disk_has_no_reference : compact_text (loaded_sources_body (record { name = codes "a.c"; path = Some (codes "/a.c"); source_reference = None; more = [] } ∷ [])) ≡ codes "{\"sources\":[{\"name\":\"a.c\",\"path\":\"/a.c\"}]}"
 unfolding escape_byte digits
 file_on_disk_has_no_reference = refl
 
@@ -93,25 +94,25 @@ unfolding escape_byte digits
 no_path_is_written = refl
 
 -- one frame of two
-a_window_of_frames : compact_text (stack_trace_body (record { id = 1; name = codes "f"; source = Some without_a_path; line = 3; column = 1 } ∷ []) 2)
+a_window_of_frames : compact_text (stack_trace_body (record { id = 1; name = codes "f"; source = Some without_a_path; line = 3; column = 1; more = [] } ∷ []) 2)
     ≡ codes "{\"stackFrames\":[{\"column\":1,\"id\":1,\"line\":3,\"name\":\"f\",\"source\":{\"name\":\"b.c\",\"sourceReference\":2}}],\"totalFrames\":2}"
 unfolding escape_byte digits
 a_window_of_frames = refl
 
-a_frame_without_a_source : compact_text (stack_trace_body (record { id = 1; name = codes "f"; source = None; line = 0; column = 0 } ∷ []) 1)
+a_frame_without_a_source : compact_text (stack_trace_body (record { id = 1; name = codes "f"; source = None; line = 0; column = 0; more = [] } ∷ []) 1)
     ≡ codes "{\"stackFrames\":[{\"column\":0,\"id\":1,\"line\":0,\"name\":\"f\"}],\"totalFrames\":1}"
 unfolding escape_byte digits
 a_frame_without_a_source = refl
 
-a_scope_is_not_expensive : compact_text (scopes_body (record { name = codes "Locals"; variables_reference = 2 } ∷ [])) ≡ codes "{\"scopes\":[{\"expensive\":false,\"name\":\"Locals\",\"variablesReference\":2}]}"
+a_scope_is_not_expensive : compact_text (scopes_body (record { name = codes "Locals"; variables_reference = 2; more = [] } ∷ [])) ≡ codes "{\"scopes\":[{\"expensive\":false,\"name\":\"Locals\",\"variablesReference\":2}]}"
 unfolding escape_byte digits
 a_scope_is_not_expensive = refl
 
-a_variable_without_parts : compact_text (variables_body (record { name = codes "x"; value = codes "1"; variables_reference = 0 } ∷ [])) ≡ codes "{\"variables\":[{\"name\":\"x\",\"value\":\"1\",\"variablesReference\":0}]}"
+a_variable_without_parts : compact_text (variables_body (record { name = codes "x"; value = codes "1"; variables_reference = 0; more = [] } ∷ [])) ≡ codes "{\"variables\":[{\"name\":\"x\",\"value\":\"1\",\"variablesReference\":0}]}"
 unfolding escape_byte digits
 a_variable_without_parts = refl
 
-a_result_with_parts : compact_text (evaluate_body (codes "P") 3) ≡ codes "{\"result\":\"P\",\"variablesReference\":3}"
+a_result_with_parts : compact_text (evaluate_body (codes "P") 3 []) ≡ codes "{\"result\":\"P\",\"variablesReference\":3}"
 unfolding escape_byte digits
 a_result_with_parts = refl
 
@@ -163,3 +164,38 @@ thread_0_goes_on = refl
 greatest_exit_code : compact_text (exited_body (pos 2147483647)) ≡ codes "{\"exitCode\":2147483647}"
 unfolding escape_byte digits
 greatest_exit_code = refl
+
+-- members beside a variable's own: each at its place, none of ours replaced
+abbrev a_type : Member
+a_type = record { key = codes "type"; value = string (codes "int") }
+
+abbrev an_expression : Member
+an_expression = record { key = codes "evaluateName"; value = string (codes "a.x") }
+
+abbrev another_value : Member
+another_value = record { key = codes "value"; value = string (codes "2") }
+
+a_variable_with_more : compact_text (variables_body (record { name = codes "x"; value = codes "1"; variables_reference = 0; more = an_expression ∷ a_type ∷ [] } ∷ []))
+    ≡ codes "{\"variables\":[{\"evaluateName\":\"a.x\",\"name\":\"x\",\"type\":\"int\",\"value\":\"1\",\"variablesReference\":0}]}"
+unfolding escape_byte digits
+a_variable_with_more = refl
+
+ours_is_not_replaced : compact_text (variables_body (record { name = codes "x"; value = codes "1"; variables_reference = 0; more = a_type ∷ another_value ∷ [] } ∷ []))
+    ≡ codes "{\"variables\":[{\"name\":\"x\",\"type\":\"int\",\"value\":\"1\",\"variablesReference\":0}]}"
+unfolding escape_byte digits
+ours_is_not_replaced = refl
+
+-- also where it is absent
+no_reference_comes_in : compact_text (loaded_sources_body (record { name = codes "a.c"; path = Some (codes "/a.c"); source_reference = None; more = record { key = codes "sourceReference"; value = whole_number 7 } ∷ [] } ∷ []))
+    ≡ codes "{\"sources\":[{\"name\":\"a.c\",\"path\":\"/a.c\"}]}"
+unfolding escape_byte digits
+no_reference_comes_in = refl
+
+nor_into_a_value_that_is_set : compact_text (set_variable_body (codes "9") (a_type ∷ record { key = codes "variablesReference"; value = whole_number 7 } ∷ [])) ≡ codes "{\"type\":\"int\",\"value\":\"9\"}"
+unfolding escape_byte digits
+nor_into_a_value_that_is_set = refl
+
+-- members out of order cannot stand beside others
+none_out_of_order : compact_text (evaluate_body (codes "1") 0 (a_type ∷ an_expression ∷ [])) ≡ codes "{\"result\":\"1\",\"variablesReference\":0}"
+unfolding escape_byte digits
+none_out_of_order = refl

@@ -1,12 +1,16 @@
 -- What dap_body writes is read again.
-use Rattle.std.proofs.Common.{◌≡◌, ℕ, suc, ◌&&◌, ◌≤◌, ◌^◌, ℤ, pos, negsuc, List, [], ◌∷◌, map, Bool, true, nat_lt, Option, Some, None, Ok, refl, arith}
+use Rattle.std.proofs.Common.{◌≡◌, codes, ℕ, suc, ◌&&◌, ◌≤◌, ◌^◌, ℤ, pos, negsuc, List, [], ◌∷◌, map, Bool, true, nat_lt, Option, Some, None, Ok, refl, arith}
 use Rattle.std.specs.List.{list_all}
 use Rattle.std.proofs.lemmas.Bool.{leb-true, lt-ltb, and_parts}
 use Rattle.serde_json.specs.Data.{Data, number}
 use Rattle.serde_json.specs.Find.{of_integer}
 use Rattle.serde_json.specs.View.{items_of}
 use Rattle.dap_command.specs.Numbers.{is_int, int_of}
-use Rattle.dap_body.specs.ResponseBody.{thread, source, stack_frame, scope, variable, breakpoint, threads_body, stack_trace_body, scopes_body, variables_body, set_breakpoints_body, loaded_sources_body, evaluate_body}
+use Rattle.serde_json.specs.Find.{get}
+use Rattle.dap_json.specs.declared.more.Member.{Member}
+use Rattle.dap_body.specs.BesideLaws.{is_own}
+use Rattle.dap_body.proofs.Standing.{own}
+use Rattle.dap_body.specs.ResponseBody.{thread_fields, thread, source_fields, source, stack_frame_fields, stack_frame, scope_fields, scope, variable_fields, variable, breakpoint, evaluate_fields, set_variable_fields, threads_body, stack_trace_body, scopes_body, variables_body, set_breakpoints_body, loaded_sources_body, evaluate_body}
 use Rattle.dap_body.specs.Row.{Row, object_of}
 use Rattle.dap_body.specs.declared.body.Body.TheVariants as body
 use Rattle.dap_body.specs.declared.response.Breakpoint.{Breakpoint}
@@ -33,35 +37,48 @@ int_again (negsuc n) e = rw e
 
 thread_again : (t : Thread) → thread_fits t ≡ true → thread_of (object_of (thread t)) ≡ Ok (thread_read t)
 unfolding thread_of
-thread_again t e = rw (int_again t.id e)
+thread_again t e = rw (own (thread_fields t) t.more (codes "id") refl refl, own (thread_fields t) t.more (codes "name") refl refl) (rw (int_again t.id e))
 
-source_again : (s : Source) (path : Option (List ℕ)) (reference : Option ℕ) → s.path ≡ path → s.source_reference ≡ reference → source_fits s ≡ true → source_in (object_of (source s)) ≡ Ok (source_read s)
+own_source_again : (s : Source) (path : Option (List ℕ)) (reference : Option ℕ) → s.path ≡ path → s.source_reference ≡ reference → source_fits s ≡ true → source_in (object_of (source_fields s)) ≡ Ok (source_read s)
 unfolding source_in
-source_again s None None is by e = rw (is, by) refl
-source_again s None (Some n) is by e = rw (is, by) (rw (rw by at e) refl)
-source_again s (Some path) None is by e = rw (is, by) refl
-source_again s (Some path) (Some n) is by e = rw (is, by) (rw (rw by at e) refl)
+own_source_again s None None is by e = rw (is, by) refl
+own_source_again s None (Some n) is by e = rw (is, by) (rw (rw by at e) refl)
+own_source_again s (Some path) None is by e = rw (is, by) refl
+own_source_again s (Some path) (Some n) is by e = rw (is, by) (rw (rw by at e) refl)
 
-stack_frame_with : (source : Option Source) (id line column : ℕ) (name : List ℕ) → is_number id ≡ true → is_number line ≡ true → is_number column ≡ true → optional_source_fits source ≡ true
-    → stack_frame_of (object_of (stack_frame (record { id = id; name = name; source = source; line = line; column = column }))) ≡ Ok (stack_frame_read (record { id = id; name = name; source = source; line = line; column = column }))
+source_again : (s : Source) → source_fits s ≡ true → source_in (object_of (source s)) ≡ Ok (source_read s)
+unfolding source_in
+source_again s e =
+    rw (own (source_fields s) s.more (codes "name") refl refl, own (source_fields s) s.more (codes "path") refl refl, own (source_fields s) s.more (codes "sourceReference") refl refl)
+    (own_source_again s s.path s.source_reference refl refl e)
+
+stack_frame_with : (source : Option Source) (id line column : ℕ) (name : List ℕ) (more : List Member) → is_number id ≡ true → is_number line ≡ true → is_number column ≡ true → optional_source_fits source ≡ true
+    → stack_frame_of (object_of (stack_frame_fields (record { id = id; name = name; source = source; line = line; column = column; more = more }))) ≡ Ok (stack_frame_read (record { id = id; name = name; source = source; line = line; column = column; more = more }))
 unfolding stack_frame_of
-stack_frame_with None id line column name i l c fits = rw (i, l, c) refl
-stack_frame_with (Some s) id line column name i l c fits = rw (i, l, c, source_again s s.path s.source_reference refl refl fits)
+stack_frame_with None id line column name more i l c fits = rw (i, l, c) refl
+stack_frame_with (Some s) id line column name more i l c fits = rw (i, l, c, source_again s fits)
+
+at_frame : (f : StackFrame) (key : List ℕ) → is_own key (stack_frame_fields f) ≡ true → get key (object_of (stack_frame f)) ≡ get key (object_of (stack_frame_fields f))
+at_frame f key o = own (stack_frame_fields f) f.more key refl o
 
 stack_frame_again : (f : StackFrame) → stack_frame_fits f ≡ true → stack_frame_of (object_of (stack_frame f)) ≡ Ok (stack_frame_read f)
+unfolding stack_frame_of
 stack_frame_again f e =
     let halves = and_parts (is_number f.id && is_number f.line) (is_number f.column && optional_source_fits f.source) e in
     let front = and_parts (is_number f.id) (is_number f.line) halves.0 in
     let back = and_parts (is_number f.column) (optional_source_fits f.source) halves.1 in
-    stack_frame_with f.source f.id f.line f.column f.name front.0 front.1 back.0 back.1
+    rw (at_frame f (codes "id") refl, at_frame f (codes "name") refl, at_frame f (codes "line") refl, at_frame f (codes "column") refl, at_frame f (codes "source") refl)
+    (stack_frame_with f.source f.id f.line f.column f.name f.more front.0 front.1 back.0 back.1)
 
 scope_again : (s : Scope) → scope_fits s ≡ true → scope_of (object_of (scope s)) ≡ Ok (scope_read s)
 unfolding scope_of
-scope_again s e = rw e
+scope_again s e =
+    rw (own (scope_fields s) s.more (codes "name") refl refl, own (scope_fields s) s.more (codes "variablesReference") refl refl, own (scope_fields s) s.more (codes "expensive") refl refl) (rw e)
 
 variable_again : (v : Variable) → variable_fits v ≡ true → variable_of (object_of (variable v)) ≡ Ok (variable_read v)
 unfolding variable_of
-variable_again v e = rw e
+variable_again v e =
+    rw (own (variable_fields v) v.more (codes "name") refl refl, own (variable_fields v) v.more (codes "value") refl refl, own (variable_fields v) v.more (codes "variablesReference") refl refl) (rw e)
 
 breakpoint_again : (b : Breakpoint) → breakpoint_fits b ≡ true → breakpoint_of (object_of (breakpoint b)) ≡ Ok (breakpoint_read b)
 unfolding breakpoint_of
@@ -101,11 +118,12 @@ breakpoints_again bs e = each_again breakpoint breakpoint_read breakpoint_fits b
 
 sources_again : (ss : List Source) → list_all source_fits ss ≡ true → sources_in (loaded_sources_body ss) ≡ Ok (map source_read ss)
 unfolding sources_in
-sources_again ss e = each_again source source_read source_fits source_in (λ s. source_again s s.path s.source_reference refl refl) 0 ss e
+sources_again ss e = each_again source source_read source_fits source_in source_again 0 ss e
 
-evaluation_again : (text : List ℕ) (reference : ℕ) → is_number reference ≡ true → evaluation_in (evaluate_body text reference) ≡ Ok (record { result = text; variables_reference = reference })
+evaluation_again : (text : List ℕ) (reference : ℕ) (more : List Member) → is_number reference ≡ true → evaluation_in (evaluate_body text reference more) ≡ Ok (record { result = text; variables_reference = reference })
 unfolding evaluation_of
-evaluation_again text reference e = rw e
+evaluation_again text reference more e =
+    rw (own (evaluate_fields text reference) more (codes "result") refl refl, own (evaluate_fields text reference) more (codes "variablesReference") refl refl) (rw e)
 
 pub what_is_written_is_read_again : WhatIsWrittenIsReadAgain
 what_is_written_is_read_again (body.Initialize capabilities) = offered_again capabilities
@@ -114,8 +132,8 @@ what_is_written_is_read_again (body.StackTrace frames total) = stack_trace_again
 what_is_written_is_read_again (body.Scopes scopes) = scopes_again scopes.items
 what_is_written_is_read_again (body.Variables variables) = variables_again variables.items
 what_is_written_is_read_again (body.SetBreakpoints breakpoints) = breakpoints_again breakpoints.items
-what_is_written_is_read_again (body.Evaluate text reference) = evaluation_again text reference
-what_is_written_is_read_again (body.SetVariable value) = refl
+what_is_written_is_read_again (body.Evaluate text reference more) = evaluation_again text reference more
+what_is_written_is_read_again (body.SetVariable value more) = rw (own (set_variable_fields value) more (codes "value") refl refl) refl
 what_is_written_is_read_again (body.Source content) = refl
 what_is_written_is_read_again body.Continue = tt
 what_is_written_is_read_again (body.LoadedSources sources) = sources_again sources.items

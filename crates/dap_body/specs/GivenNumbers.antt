@@ -1,6 +1,7 @@
 -- The references that the bodies of responses give are the numbers that these were built with, and no other.
 -- Specification, "StackTraceResponse", "ScopesResponse", "VariablesResponse", "EvaluateResponse", "SetVariableResponse".
 use Rattle.std.specs.Prelude.{◌≡◌, ℕ, List, [], ◌∷◌, map, filter, ◌&&◌, nat_le}
+use Rattle.dap_json.specs.declared.more.Member.{Member}
 use Rattle.dap_command.specs.GivenReferences.{frame_ids, holders_of}
 use Rattle.dap_command.specs.declared.command.Command.TheVariants.{Scopes, Variables, Evaluate, SetVariable}
 use Rattle.dap_body.specs.ResponseBody.{stack_trace_body, scopes_body, variables_body, set_variable_body, evaluate_body}
@@ -16,5 +17,5 @@ pub record BodiesGiveTheirNumbers : Type 0 where
   pub stack_trace : (frames : List StackFrame) (total : ℕ) → frame_ids (stack_trace_body frames total) ≡ references_among 0 (map (λ f. f.id) frames)
   pub scopes : (scopes : List Scope) → holders_of Scopes (scopes_body scopes) ≡ references_among 1 (map (λ s. s.variables_reference) scopes)
   pub variables : (variables : List Variable) → holders_of Variables (variables_body variables) ≡ references_among 1 (map (λ v. v.variables_reference) variables)
-  pub evaluate : (result : List ℕ) (reference : ℕ) → holders_of Evaluate (evaluate_body result reference) ≡ references_among 1 (reference ∷ [])
-  pub set_variable : (value : List ℕ) → holders_of SetVariable (set_variable_body value) ≡ []
+  pub evaluate : (result : List ℕ) (reference : ℕ) (more : List Member) → holders_of Evaluate (evaluate_body result reference more) ≡ references_among 1 (reference ∷ [])
+  pub set_variable : (value : List ℕ) (more : List Member) → holders_of SetVariable (set_variable_body value more) ≡ []

@@ -3,6 +3,7 @@
 use Rattle.std.specs.Prelude.{ℕ, ℤ, List, Option, IsTrue, Some}
 use Rattle.serde_json.specs.Data.{Data}
 use Rattle.dap_json.specs.Writable.{is_plain_tree}
+use Rattle.dap_json.specs.declared.more.Member.{Member}
 use Rattle.dap_command.specs.Capabilities.{capabilities_data}
 use Rattle.dap_command.specs.declared.capabilities.Capabilities.{Capabilities}
 use Rattle.dap_body.specs.EventBody.{output_body, stopped_body, continued_body, exited_body}
@@ -27,8 +28,8 @@ pub record ResponseBodiesArePlain : Type 0 where
   pub stack_trace : (frames : List StackFrame) (total : ℕ) → IsPlain (stack_trace_body frames total)
   pub scopes : (scopes : List Scope) → IsPlain (scopes_body scopes)
   pub variables : (variables : List Variable) → IsPlain (variables_body variables)
-  pub set_variable : (value : List ℕ) → IsPlain (set_variable_body value)
-  pub evaluate : (result : List ℕ) (reference : ℕ) → IsPlain (evaluate_body result reference)
+  pub set_variable : (value : List ℕ) (more : List Member) → IsPlain (set_variable_body value more)
+  pub evaluate : (result : List ℕ) (reference : ℕ) (more : List Member) → IsPlain (evaluate_body result reference more)
   pub source : (content : List ℕ) → IsPlain (source_body content)
   pub loaded_sources : (sources : List Source) → IsPlain (loaded_sources_body sources)
   pub run_in_terminal : (process shell : Option ℕ) → IsPlain (run_in_terminal_body process shell)

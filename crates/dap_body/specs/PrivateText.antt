@@ -7,6 +7,7 @@ use Rattle.serde_json.specs.Written.{outline, members_have_float}
 use Rattle.dap_json.specs.Sound.{IsSound}
 use Rattle.dap_json.specs.More.{members_of}
 use Rattle.dap_json.specs.declared.more.Member.{Member}
+use Rattle.dap_body.specs.Beside.{fields_of, before_key, after_key}
 use Rattle.dap_body.specs.Row.{Field, Row, value_data, is_in_order}
 use Rattle.dap_body.specs.declared.body.Body.{Body}
 use Rattle.dap_body.specs.declared.body.Body.TheVariants.{Initialize}
@@ -29,6 +30,16 @@ wrote_row (field ∷ row) ts = wrote_row row (wrote field ts)
 -- of members that are written among them
 abbrev pub HasNoFloats : List Member → Type 0
 HasNoFloats ms = members_have_float (members_of ms) ≡ false
+
+-- the same of a row among members, field by field
+unfoldable pub wrote_among : Row → List Member → List Token → List Token
+wrote_among [] ms ts = wrote_row (fields_of ms) ts
+wrote_among (field ∷ row) ms ts = wrote_among row (after_key field.0 ms) (wrote field (wrote_row (fields_of (before_key field.0 ms)) ts))
+
+-- those before a key were written, and these are those behind it
+pub record PutsBefore (key : List ℕ) (ms : List Member) (ts : List Token) (left : List Member) (us : List Token) : Type 0 where
+  pub adds : us ≡ wrote_row (fields_of (before_key key ms)) ts
+  pub behind : left ≡ after_key key ms
 
 abbrev pub IsSoundIfAny : Option Data → Type 0
 IsSoundIfAny None = ⊤

@@ -78,8 +78,8 @@ IsReadAgain (body.StackTrace frames total) = list_all stack_frame_fits frames.it
 IsReadAgain (body.Scopes scopes) = list_all scope_fits scopes.items ≡ true → scopes_in (data_of (body.Scopes scopes)) ≡ Ok (map scope_read scopes.items)
 IsReadAgain (body.Variables variables) = list_all variable_fits variables.items ≡ true → variables_in (data_of (body.Variables variables)) ≡ Ok (map variable_read variables.items)
 IsReadAgain (body.SetBreakpoints breakpoints) = list_all breakpoint_fits breakpoints.items ≡ true → breakpoints_in (data_of (body.SetBreakpoints breakpoints)) ≡ Ok (map breakpoint_read breakpoints.items)
-IsReadAgain (body.Evaluate text reference) = is_number reference ≡ true → evaluation_in (data_of (body.Evaluate text reference)) ≡ Ok (record { result = text; variables_reference = reference })
-IsReadAgain (body.SetVariable value) = value_in (data_of (body.SetVariable value)) ≡ Ok value
+IsReadAgain (body.Evaluate text reference more) = is_number reference ≡ true → evaluation_in (data_of (body.Evaluate text reference more)) ≡ Ok (record { result = text; variables_reference = reference })
+IsReadAgain (body.SetVariable value more) = value_in (data_of (body.SetVariable value more)) ≡ Ok value
 IsReadAgain (body.Source content) = content_in (data_of (body.Source content)) ≡ Ok content
 IsReadAgain body.Continue = Unit {0}
 IsReadAgain (body.LoadedSources sources) = list_all source_fits sources.items ≡ true → sources_in (data_of (body.LoadedSources sources)) ≡ Ok (map source_read sources.items)

@@ -1,7 +1,9 @@
 -- The bodies of responses, and the objects in them, as rows of fields: Specification, the types whose names end in "Response", and "Types".
--- Which of the optional members are written is this profile's choice.
-use Rattle.std.specs.Prelude.{ℕ, List, [], ◌∷◌, true, false, Option, codes, option_map}
+-- Which of the optional members are a row's own is this profile's choice. One that a row never has, as `variablesReference` of a value that is set, is its own all the same where a client would take it for a reference.
+use Rattle.std.specs.Prelude.{ℕ, List, [], ◌∷◌, true, false, Option, None, codes, option_map}
 use Rattle.serde_json.specs.Data.{Data}
+use Rattle.dap_json.specs.declared.more.Member.{Member}
+use Rattle.dap_body.specs.Beside.{beside}
 use Rattle.dap_body.specs.Row.{Row, object_of, list_of, text, whole, integer, flag, tree, text_if_any, whole_if_any, tree_if_any}
 use Rattle.dap_body.specs.declared.response.Breakpoint.{Breakpoint}
 use Rattle.dap_body.specs.declared.response.Scope.{Scope}
@@ -10,27 +12,42 @@ use Rattle.dap_body.specs.declared.response.StackFrame.{StackFrame}
 use Rattle.dap_body.specs.declared.response.Thread.{Thread}
 use Rattle.dap_body.specs.declared.response.Variable.{Variable}
 
--- ---- the objects of lists
+-- ---- the objects of lists: their own fields, and these with what stands beside
 
 abbrev pub breakpoint : Breakpoint → Row
 breakpoint b = (codes "id", whole b.id) ∷ (codes "line", whole b.line) ∷ (codes "verified", flag b.verified) ∷ []
 
+abbrev pub thread_fields : Thread → Row
+thread_fields t = (codes "id", integer t.id) ∷ (codes "name", text t.name) ∷ []
+
 abbrev pub thread : Thread → Row
-thread t = (codes "id", integer t.id) ∷ (codes "name", text t.name) ∷ []
+thread t = beside (thread_fields t) t.more
+
+abbrev pub source_fields : Source → Row
+source_fields s = (codes "name", text s.name) ∷ (codes "path", text_if_any s.path) ∷ (codes "sourceReference", whole_if_any s.source_reference) ∷ []
 
 abbrev pub source : Source → Row
-source s = (codes "name", text s.name) ∷ (codes "path", text_if_any s.path) ∷ (codes "sourceReference", whole_if_any s.source_reference) ∷ []
+source s = beside (source_fields s) s.more
 
-abbrev pub stack_frame : StackFrame → Row
-stack_frame f =
+abbrev pub stack_frame_fields : StackFrame → Row
+stack_frame_fields f =
     (codes "column", whole f.column) ∷ (codes "id", whole f.id) ∷ (codes "line", whole f.line) ∷ (codes "name", text f.name)
     ∷ (codes "source", tree_if_any (option_map (λ s. object_of (source s)) f.source)) ∷ []
 
+abbrev pub stack_frame : StackFrame → Row
+stack_frame f = beside (stack_frame_fields f) f.more
+
+abbrev pub scope_fields : Scope → Row
+scope_fields s = (codes "expensive", flag false) ∷ (codes "name", text s.name) ∷ (codes "variablesReference", whole s.variables_reference) ∷ []
+
 abbrev pub scope : Scope → Row
-scope s = (codes "expensive", flag false) ∷ (codes "name", text s.name) ∷ (codes "variablesReference", whole s.variables_reference) ∷ []
+scope s = beside (scope_fields s) s.more
+
+abbrev pub variable_fields : Variable → Row
+variable_fields v = (codes "name", text v.name) ∷ (codes "value", text v.value) ∷ (codes "variablesReference", whole v.variables_reference) ∷ []
 
 abbrev pub variable : Variable → Row
-variable v = (codes "name", text v.name) ∷ (codes "value", text v.value) ∷ (codes "variablesReference", whole v.variables_reference) ∷ []
+variable v = beside (variable_fields v) v.more
 
 -- ---- the bodies
 
@@ -53,8 +70,11 @@ scopes_row scopes = (codes "scopes", tree (list_of scope scopes)) ∷ []
 abbrev pub variables_row : List Variable → Row
 variables_row variables = (codes "variables", tree (list_of variable variables)) ∷ []
 
-abbrev pub evaluate_row : List ℕ → ℕ → Row
-evaluate_row result reference = (codes "result", text result) ∷ (codes "variablesReference", whole reference) ∷ []
+abbrev pub evaluate_fields : List ℕ → ℕ → Row
+evaluate_fields result reference = (codes "result", text result) ∷ (codes "variablesReference", whole reference) ∷ []
+
+abbrev pub evaluate_row : List ℕ → ℕ → List Member → Row
+evaluate_row result reference more = beside (evaluate_fields result reference) more
 
 abbrev pub source_row : List ℕ → Row
 source_row content = (codes "content", text content) ∷ []
@@ -62,8 +82,11 @@ source_row content = (codes "content", text content) ∷ []
 abbrev pub loaded_sources_row : List Source → Row
 loaded_sources_row sources = (codes "sources", tree (list_of source sources)) ∷ []
 
-abbrev pub set_variable_row : List ℕ → Row
-set_variable_row value = (codes "value", text value) ∷ []
+abbrev pub set_variable_fields : List ℕ → Row
+set_variable_fields value = (codes "value", text value) ∷ (codes "variablesReference", whole_if_any None) ∷ []
+
+abbrev pub set_variable_row : List ℕ → List Member → Row
+set_variable_row value more = beside (set_variable_fields value) more
 
 -- a client's
 abbrev pub run_in_terminal_row : Option ℕ → Option ℕ → Row
@@ -89,8 +112,8 @@ scopes_body scopes = object_of (scopes_row scopes)
 abbrev pub variables_body : List Variable → Data
 variables_body variables = object_of (variables_row variables)
 
-abbrev pub evaluate_body : List ℕ → ℕ → Data
-evaluate_body result reference = object_of (evaluate_row result reference)
+abbrev pub evaluate_body : List ℕ → ℕ → List Member → Data
+evaluate_body result reference more = object_of (evaluate_row result reference more)
 
 abbrev pub source_body : List ℕ → Data
 source_body content = object_of (source_row content)
@@ -98,8 +121,8 @@ source_body content = object_of (source_row content)
 abbrev pub loaded_sources_body : List Source → Data
 loaded_sources_body sources = object_of (loaded_sources_row sources)
 
-abbrev pub set_variable_body : List ℕ → Data
-set_variable_body value = object_of (set_variable_row value)
+abbrev pub set_variable_body : List ℕ → List Member → Data
+set_variable_body value more = object_of (set_variable_row value more)
 
 abbrev pub run_in_terminal_body : Option ℕ → Option ℕ → Data
 run_in_terminal_body process shell = object_of (run_in_terminal_row process shell)

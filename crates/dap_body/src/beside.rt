@@ -1,7 +1,9 @@
 //! Members that stand beside an object's own fields, each written at its place among them.
 ghost use Rattle.std.specs.Prelude.{◌≡◌, ◌∷◌, [], IfOk, OnOk};
-ghost use Rattle.dap_body.specs.Beside.{field_of, fields_of, before_key, after_key, standing};
-ghost use Rattle.dap_body.specs.PrivateText.{wrote, wrote_row, HasNoFloats};
+ghost use Rattle.dap_json.specs.More.{object_with};
+ghost use Rattle.dap_json.specs.Sound.{IsSound};
+ghost use Rattle.dap_body.specs.Beside.{field_of, standing};
+ghost use Rattle.dap_body.specs.PrivateText.{wrote, wrote_among, HasNoFloats, PutsBefore};
 
 use dap_json::written::write_value;
 use dap_json::{Member, More};
@@ -14,6 +16,7 @@ use std::cmp::Ordering;
 pub(crate) fn standing(more: &More) -> &[Member]
     ensures members { result.now ≡ standing more.now }
     ensures plain { HasNoFloats result.now }
+    ensures sound { IsSound (object_with result.now) }
 {
     more.is_more();
     more.as_slice()
@@ -36,8 +39,7 @@ fn put_some_before<'m>(
     members: &'m [Member],
 ) -> Result<&'m [Member], AllocError>
     requires { HasNoFloats members.now }
-    ensures adds { OnOk result (out.new.tokens ≡ wrote_row (fields_of (before_key key.now members.now)) out.old.tokens) }
-    ensures left { IfOk result (λ left. left.now ≡ after_key key.now members.now) }
+    ensures puts { IfOk result (λ left. PutsBefore key.now members.now out.old.tokens left.now out.new.tokens) }
     ensures plain { IfOk result (λ left. HasNoFloats left.now) }
     ensures before { out.new.before ≡ out.old.before }
 {
@@ -61,8 +63,7 @@ pub(crate) fn put_before<'m>(
     members: &'m [Member],
 ) -> Result<&'m [Member], AllocError>
     requires { HasNoFloats members.now }
-    ensures adds { OnOk result (out.new.tokens ≡ wrote_row (fields_of (before_key key.now members.now)) out.old.tokens) }
-    ensures left { IfOk result (λ left. left.now ≡ after_key key.now members.now) }
+    ensures puts { IfOk result (λ left. PutsBefore key.now members.now out.old.tokens left.now out.new.tokens) }
     ensures plain { IfOk result (λ left. HasNoFloats left.now) }
     ensures before { out.new.before ≡ out.old.before }
 {
@@ -73,9 +74,10 @@ pub(crate) fn put_before<'m>(
 }
 
 /// Writes all that are left.
+#[tactic(auto, unfolding(crate::specs::PrivateText::wrote_among))]
 pub(crate) fn put_left(out: &mut Writer, members: &[Member]) -> Result<(), AllocError>
     requires { HasNoFloats members.now }
-    ensures adds { OnOk result (out.new.tokens ≡ wrote_row (fields_of members.now) out.old.tokens) }
+    ensures adds { OnOk result (out.new.tokens ≡ wrote_among [] members.now out.old.tokens) }
     ensures before { out.new.before ≡ out.old.before }
 {
     for member in members {

@@ -6,15 +6,17 @@ ghost use Rattle.serde_json.specs.View.{view};
 ghost use Rattle.dap_json.specs.Sound.{IsSound};
 ghost use Rattle.dap_body.specs.Body.{data_of};
 ghost use Rattle.dap_command.specs.Capabilities.{capabilities_data};
-ghost use Rattle.dap_body.specs.PrivateText.{is_of_parts};
+ghost use Rattle.dap_body.specs.PrivateText.{is_of_parts, wrote_row, IsSoundRow};
+ghost use Rattle.dap_body.specs.ResponseBody.{evaluate_row, set_variable_row};
 
+use crate::beside::{put_before, put_left, standing};
 use crate::response::{Breakpoint, Scope, Source, StackFrame, Thread, Variable};
 use crate::row::{
     Fields, append_object, put_flag, put_list, put_number, put_short, put_short_if_any, put_text,
 };
 use dap_command::Capabilities;
 use dap_json::laws::{text_is_read_again, what_is_read_is_sound};
-use dap_json::{ParseFault, Text, parse};
+use dap_json::{More, ParseFault, Text, parse};
 use json::Writer;
 use serde_json::Value;
 use std::alloc::{AllocError, Global};
@@ -49,11 +51,13 @@ pub enum Body {
     /// The value that was set, as text.
     SetVariable {
         value: Text,
+        more: More,
     },
     /// The result as text, and the number by which a client asks for its parts, 0 where it has none.
     Evaluate {
         result: Text,
         variables_reference: u32,
+        more: More,
     },
     /// The text of a source.
     Source {
@@ -67,6 +71,35 @@ pub enum Body {
         process_id: Option<u32>,
         shell_process_id: Option<u32>,
     },
+}
+
+fn write_value_set(out: &mut Writer, value: &Text, more: &More) -> Result<(), AllocError>
+    ensures adds { OnOk result (out.new.tokens ≡ wrote_row (set_variable_row value.now more.now) out.old.tokens) }
+    ensures before { out.new.before ≡ out.old.before }
+    ensures sound { OnOk result (IsSoundRow (set_variable_row value.now more.now)) }
+{
+    let left = put_before(out, "value", standing(more))?;
+    put_text(out, "value", value)?;
+    let left = put_before(out, "variablesReference", left)?;
+    put_short_if_any(out, "variablesReference", None)?;
+    put_left(out, left)
+}
+
+fn write_evaluation(
+    out: &mut Writer,
+    text: &Text,
+    variables_reference: u32,
+    more: &More,
+) -> Result<(), AllocError>
+    ensures adds { OnOk result (out.new.tokens ≡ wrote_row (evaluate_row text.now variables_reference more.now) out.old.tokens) }
+    ensures before { out.new.before ≡ out.old.before }
+    ensures sound { OnOk result (IsSoundRow (evaluate_row text.now variables_reference more.now)) }
+{
+    let left = put_before(out, "result", standing(more))?;
+    put_text(out, "result", text)?;
+    let left = put_before(out, "variablesReference", left)?;
+    put_short(out, "variablesReference", variables_reference)?;
+    put_left(out, left)
 }
 
 /// Of all but what is offered, which is written by way of its tree, in `append_offers`.
@@ -92,14 +125,12 @@ impl Fields for Body {
             }
             Body::Scopes { scopes } => put_list(out, "scopes", scopes.as_slice()),
             Body::Variables { variables } => put_list(out, "variables", variables.as_slice()),
-            Body::SetVariable { value } => put_text(out, "value", value),
+            Body::SetVariable { value, more } => write_value_set(out, value, more),
             Body::Evaluate {
                 result,
                 variables_reference,
-            } => {
-                put_text(out, "result", result)?;
-                put_short(out, "variablesReference", *variables_reference)
-            }
+                more,
+            } => write_evaluation(out, result, *variables_reference, more),
             Body::Source { content } => put_text(out, "content", content),
             Body::LoadedSources { sources } => put_list(out, "sources", sources.as_slice()),
             Body::RunInTerminal {

@@ -2,16 +2,17 @@
 //! end in "Response", and "Types".
 //!
 //! Lines and columns are written as they stand: whether they count from 0 or 1 is the caller's part.
-ghost use Rattle.std.specs.Prelude.{◌≡◌, IfOk};
+ghost use Rattle.std.specs.Prelude.{◌≡◌, [], IfOk};
 ghost use Rattle.serde_json.specs.View.{view};
 ghost use Rattle.dap_body.specs.ResponseBody.{set_breakpoints_body, threads_body, continue_body, stack_trace_body, scopes_body, variables_body, set_variable_body, evaluate_body, source_body, loaded_sources_body, run_in_terminal_body};
 
+use crate::beside::{put_before, put_left, standing};
 use crate::body::Body;
 use crate::row::{
     Fields, put_flag, put_number, put_object_if_any, put_short, put_short_if_any, put_signed,
     put_text, put_text_if_any,
 };
-use dap_json::Text;
+use dap_json::{More, Text};
 use json::Writer;
 use serde_json::Value;
 use std::alloc::{AllocError, Global};
@@ -42,6 +43,8 @@ impl Fields for Breakpoint {
 pub struct Thread {
     pub id: i64,
     pub name: Text,
+    /// What stands beside these.
+    pub more: More,
 }
 
 impl Fields for Thread {
@@ -50,8 +53,11 @@ impl Fields for Thread {
     ghost written = { thread };
 
     fn write(&self, out: &mut Writer) -> Result<(), AllocError> {
+        let left = put_before(out, "id", standing(&self.more))?;
         put_signed(out, "id", self.id)?;
-        put_text(out, "name", &self.name)
+        let left = put_before(out, "name", left)?;
+        put_text(out, "name", &self.name)?;
+        put_left(out, left)
     }
 }
 
@@ -63,6 +69,8 @@ pub struct Source {
     /// The number by which a client asks for its text, above 0; none where the client reads the file at `path` itself:
     /// Specification, "Source".
     pub source_reference: Option<u32>,
+    /// What stands beside these.
+    pub more: More,
 }
 
 impl Fields for Source {
@@ -71,9 +79,13 @@ impl Fields for Source {
     ghost written = { source };
 
     fn write(&self, out: &mut Writer) -> Result<(), AllocError> {
+        let left = put_before(out, "name", standing(&self.more))?;
         put_text(out, "name", &self.name)?;
+        let left = put_before(out, "path", left)?;
         put_text_if_any(out, "path", &self.path)?;
-        put_short_if_any(out, "sourceReference", self.source_reference)
+        let left = put_before(out, "sourceReference", left)?;
+        put_short_if_any(out, "sourceReference", self.source_reference)?;
+        put_left(out, left)
     }
 }
 
@@ -87,6 +99,8 @@ pub struct StackFrame {
     pub source: Option<Source>,
     pub line: u32,
     pub column: u32,
+    /// What stands beside these.
+    pub more: More,
 }
 
 impl Fields for StackFrame {
@@ -95,11 +109,17 @@ impl Fields for StackFrame {
     ghost written = { stack_frame };
 
     fn write(&self, out: &mut Writer) -> Result<(), AllocError> {
+        let left = put_before(out, "column", standing(&self.more))?;
         put_short(out, "column", self.column)?;
+        let left = put_before(out, "id", left)?;
         put_short(out, "id", self.id)?;
+        let left = put_before(out, "line", left)?;
         put_short(out, "line", self.line)?;
+        let left = put_before(out, "name", left)?;
         put_text(out, "name", &self.name)?;
-        put_object_if_any(out, "source", &self.source)
+        let left = put_before(out, "source", left)?;
+        put_object_if_any(out, "source", &self.source)?;
+        put_left(out, left)
     }
 }
 
@@ -109,6 +129,8 @@ pub struct Scope {
     pub name: Text,
     /// The number by which a client asks for its variables.
     pub variables_reference: u32,
+    /// What stands beside these.
+    pub more: More,
 }
 
 impl Fields for Scope {
@@ -117,9 +139,13 @@ impl Fields for Scope {
     ghost written = { scope };
 
     fn write(&self, out: &mut Writer) -> Result<(), AllocError> {
+        let left = put_before(out, "expensive", standing(&self.more))?;
         put_flag(out, "expensive", false)?;
+        let left = put_before(out, "name", left)?;
         put_text(out, "name", &self.name)?;
-        put_short(out, "variablesReference", self.variables_reference)
+        let left = put_before(out, "variablesReference", left)?;
+        put_short(out, "variablesReference", self.variables_reference)?;
+        put_left(out, left)
     }
 }
 
@@ -130,6 +156,8 @@ pub struct Variable {
     pub value: Text,
     /// The number by which a client asks for its parts, 0 where it has none.
     pub variables_reference: u32,
+    /// What stands beside these.
+    pub more: More,
 }
 
 impl Fields for Variable {
@@ -138,9 +166,13 @@ impl Fields for Variable {
     ghost written = { variable };
 
     fn write(&self, out: &mut Writer) -> Result<(), AllocError> {
+        let left = put_before(out, "name", standing(&self.more))?;
         put_text(out, "name", &self.name)?;
+        let left = put_before(out, "value", left)?;
         put_text(out, "value", &self.value)?;
-        put_short(out, "variablesReference", self.variables_reference)
+        let left = put_before(out, "variablesReference", left)?;
+        put_short(out, "variablesReference", self.variables_reference)?;
+        put_left(out, left)
     }
 }
 
@@ -199,9 +231,13 @@ pub fn body_variables(alloc: Global, variables: Vec<Variable>) -> Result<Value, 
 
 /// The body of the response to `setVariable`: the value that was set, as text.
 pub fn body_set_variable(alloc: Global, value: Text) -> Result<Value, AllocError>
-    ensures { IfOk result (λ v. view v ≡ set_variable_body value) }
+    ensures { IfOk result (λ v. view v ≡ set_variable_body value []) }
 {
-    Body::SetVariable { value }.value(alloc)
+    Body::SetVariable {
+        value,
+        more: More::none(),
+    }
+    .value(alloc)
 }
 
 /// The body of the response to `evaluate`: the result as text, and the number by which a client asks for its parts, 0
@@ -211,11 +247,12 @@ pub fn body_evaluate(
     text: Text,
     variables_reference: u32,
 ) -> Result<Value, AllocError>
-    ensures { IfOk result (λ v. view v ≡ evaluate_body text variables_reference) }
+    ensures { IfOk result (λ v. view v ≡ evaluate_body text variables_reference []) }
 {
     Body::Evaluate {
         result: text,
         variables_reference,
+        more: More::none(),
     }
     .value(alloc)
 }
