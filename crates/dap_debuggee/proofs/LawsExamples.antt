@@ -85,7 +85,7 @@ acts_of_setting : (may_answer Stopped assign done ≡ true) × (may_answer Runni
 acts_of_setting = (refl, refl, refl, refl, refl, refl, refl, refl)
 
 abbrev one : List ℕ → List ℕ → Variable
-one name value = record { name = name; value = value; holder = Some 7 }
+one name value = record { name = name; value = value; holder = Some 7; more = [] }
 
 -- none, another name, and of one name the first; what holds its children stays
 with_values : (with_value (codes "x") (codes "9") [] ≡ []) × (with_value (codes "x") (codes "9") (one (codes "y") (codes "1") ∷ []) ≡ one (codes "y") (codes "1") ∷ []) × (with_value (codes "x") (codes "9") (one (codes "x") (codes "1") ∷ one (codes "x") (codes "2") ∷ []) ≡ one (codes "x") (codes "9") ∷ one (codes "x") (codes "2") ∷ []) × (with_value [] (codes "9") (one [] (codes "1") ∷ []) ≡ one [] (codes "9") ∷ [])
@@ -109,7 +109,7 @@ thread_ids : (is_short (StoppedBy [] (negsuc 9007199254740990)) ≡ true) × (is
 thread_ids = (refl, refl, refl, refl)
 
 abbrev frame : ℕ → Option ℕ → ℕ → Frame
-frame object source line = record { object = object; name = codes "f"; source = source; line = line }
+frame object source line = record { object = object; name = codes "f"; source = source; line = line; more = [] }
 
 frames : (is_frame 1 (frame 0 (Some 0) 1) ≡ true) × (is_frame 1 (frame 0 (Some 0) 0) ≡ false) × (is_frame 1 (frame 0 (Some 0) 2147483647) ≡ true) × (is_frame 1 (frame 0 (Some 0) 2147483648) ≡ false) × (is_frame 1 (frame 0 (Some 1) 1) ≡ false) × (is_frame 0 (frame 0 (Some 0) 1) ≡ false)
 frames = (refl, refl, refl, refl, refl, refl)

@@ -3,6 +3,7 @@
 use Rattle.std.specs.Prelude.{◌≡◌, ℕ, ◌+◌, ◌%◌, ◌^◌, ◌≤◌, ℤ, pos, negsuc, int_le, Bool, true, false, ◌&&◌, nat_le, nat_lt, nat_eq, bytes_eq, List, [], ◌∷◌, length, Option, Some, None, IsTrue, if◌then◌else◌, option_map, option_and_then, Result, Ok, Err}
 use Rattle.std.specs.List.{list_all, slice_get, find}
 use Rattle.std.specs.Option.{IsSome}
+use Rattle.dap_json.specs.declared.more.Member.{Member}
 use Rattle.dap_command.specs.SameSource.{is_source}
 use Rattle.dap_command.specs.Numbers.{is_int}
 use Rattle.dap_command.specs.declared.source_key.SourceKey.{SourceKey}
@@ -147,10 +148,10 @@ pub record Stands (v w : Shown) : Type 0 where
 abbrev pub variable_named : List ℕ → List Variable → Option Variable
 variable_named name variables = find (λ variable. bytes_eq name variable.name) variables
 
--- that one has the value, and what holds its children stays
+-- that one has the value; what holds its children stays, and what is said beside
 abbrev pub with_value : List ℕ → List ℕ → List Variable → List Variable
 with_value name value [] = []
-with_value name value (x ∷ xs) = if bytes_eq name x.name then record { name = x.name; value = value; holder = x.holder } ∷ xs else x ∷ with_value name value xs
+with_value name value (x ∷ xs) = if bytes_eq name x.name then record { name = x.name; value = value; holder = x.holder; more = x.more } ∷ xs else x ∷ with_value name value xs
 
 abbrev pub children_after : ℕ → List ℕ → List ℕ → (ℕ → Option (List Variable)) → ℕ → Option (List Variable)
 children_after holder name value before h = if nat_eq h holder then option_map (with_value name value) (before h) else before h
@@ -217,7 +218,8 @@ KeepsFrames {View} shown follows = (v w : View) (a : Act) (r : Reply) → follow
 -- only what is told of a variable is set, and the variable has that value then
 pub record SetsWhatIsTold (v w : Shown) (holder : ℕ) (name text : List ℕ) : Type 0 where
   pub value : List ℕ
-  pub told : v.assigned holder name text ≡ Some (record { value = value })
+  pub more : List Member
+  pub told : v.assigned holder name text ≡ Some (record { value = value; more = more })
   pub set : SetsOneValue holder name value v w
 
 abbrev pub SetsValues : {View : Type 0} → (View → Shown) → Follows View → Type 0

@@ -2,9 +2,12 @@
 //!
 //! Specification, "Thread", "StackFrame", "Scope", "Variable", "Source", and the events "output", "stopped", "continued"
 //! and "exited". An object number is the debuggee's own name of a frame, or of a holder: what holds variables.
+//!
+//! Whatever else the protocol lets a debugger say of one of these can stand beside it (`more`), as a variable's `type`. None of a
+//! body's own members is replaced by that, also not one that is absent: `dap_body::laws::more_is_beside`.
 ghost use Rattle.std.specs.Prelude.{◌≡◌};
 
-use dap_json::Text;
+use dap_json::{More, Text};
 use std::alloc::AllocError;
 
 /// Where a debuggee stands.
@@ -97,6 +100,8 @@ pub struct Thread {
     /// -9007199254740991 to 9007199254740991.
     pub id: i64,
     pub name: Text,
+    /// What is to be said beside these, in the members of its object.
+    pub more: More,
 }
 
 /// Specification, "StackFrame".
@@ -109,6 +114,8 @@ pub struct Frame {
     pub source: Option<u32>,
     /// 1 to 2147483647; 0 where there is no source.
     pub line: u32,
+    /// What is to be said beside these, in the members of its object.
+    pub more: More,
 }
 
 /// Specification, "Scope".
@@ -117,6 +124,8 @@ pub struct Scope {
     pub name: Text,
     /// The number of what holds its variables, by which `children` is asked.
     pub holder: u64,
+    /// What is to be said beside these, in the members of its object.
+    pub more: More,
 }
 
 /// Specification, "Variable".
@@ -126,6 +135,8 @@ pub struct Variable {
     pub value: Text,
     /// What holds its children; `None` where it has none.
     pub holder: Option<u64>,
+    /// What is to be said beside these, in the members of its object.
+    pub more: More,
 }
 
 /// The value of an expression: Specification, "EvaluateResponse".
@@ -134,12 +145,16 @@ pub struct Evaluation {
     pub value: Text,
     /// What holds its children; `None` where it has none.
     pub holder: Option<u64>,
+    /// What is to be said beside these, in the members of its object.
+    pub more: More,
 }
 
 /// The value that a variable gets: Specification, "SetVariableResponse".
 #[derive(Debug, Drop)]
 pub struct Assigned {
     pub value: Text,
+    /// What is to be said beside these, in the members of its object.
+    pub more: More,
 }
 
 /// Specification, "Source".
@@ -150,6 +165,8 @@ pub struct Source {
     pub path: Option<Text>,
     /// Whether the client reads the file at `path` itself, where there is a path. Else it asks for the text by a number.
     pub on_disk: bool,
+    /// What is to be said beside these, in the members of its object.
+    pub more: More,
 }
 
 impl Category {
