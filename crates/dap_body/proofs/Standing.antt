@@ -1,5 +1,5 @@
 -- Members that stand beside a row's own fields.
-use Rattle.std.proofs.Common.{◌≡◌, ℕ, List, [], ◌∷◌, ◌++◌, Bool, true, false, refl, ap, ◌∙◌, subst, sym, if◌then◌else◌}
+use Rattle.std.proofs.Common.{◌≡◌, ℕ, None, List, [], ◌∷◌, ◌++◌, Bool, true, false, refl, ap, ◌∙◌, subst, sym, if◌then◌else◌}
 use Rattle.std.specs.Ordering.{nat_cmp}
 use Rattle.std.specs.Cmp.Lexicographic.{slice_cmp}
 use Rattle.std.specs.declared.cmp.Ordering.{Ordering}
@@ -11,8 +11,8 @@ use Rattle.dap_json.specs.More.{members_of, object_with, are_in_order, are_more,
 use Rattle.dap_json.specs.Writable.{is_writable}
 use Rattle.dap_json.specs.declared.more.Member.{Member}
 use Rattle.dap_body.specs.Beside.{fields_of, before_key, after_key, among, standing, beside}
-use Rattle.dap_body.specs.Row.{Field, Row, is_in_order, object_of}
-use Rattle.dap_body.specs.PrivateText.{wrote, wrote_row, wrote_among, HasSoundFields, IsSoundRow, PutsBefore}
+use Rattle.dap_body.specs.Row.{Field, Row, whole_if_any, is_in_order, object_of}
+use Rattle.dap_body.specs.PrivateText.{wrote, wrote_row, wrote_among, HasSoundFields, IsSoundRow, PutsBefore, PutsNone}
 use Rattle.serde_json.specs.Find.{get}
 use Rattle.dap_body.specs.BesideLaws.{MoreIsBeside, is_own}
 use Rattle.dap_body.proofs.Among.{placed, among-step, among-none, own-among, others-among, order-among}
@@ -76,6 +76,10 @@ pub then-field : (f : Field) (row : Row) {ms rest : List Member} {t0 t1 t2 end :
 unfolding wrote_among
 then-field f row {ms} {rest} {t0} {t1} {t2} {end} puts own later =
     later ∙ ap (λ xs. wrote_among row xs t2) puts.behind ∙ ap (wrote_among row (after_key f.0 ms)) (own ∙ ap (wrote f) puts.adds)
+
+-- the same of a field that is absent
+pub then-none : (key : List ℕ) (row : Row) {ms rest : List Member} {t0 t2 end : List Token} → PutsNone key ms t0 rest t2 → end ≡ wrote_among row rest t2 → end ≡ wrote_among ((key, whole_if_any None) ∷ row) ms t0
+then-none key row puts later = then-field (key, whole_if_any None) row puts.puts puts.own later
 
 pub wrote-beside : (row : Row) (more : List Member) {ms : List Member} (ts : List Token) {end : List Token} → ms ≡ standing more → end ≡ wrote_among row ms ts → end ≡ wrote_row (beside row more) ts
 wrote-beside row more {ms} ts {end} is e = e ∙ sym (wrote-among row ms ts) ∙ ap (λ xs. wrote_row (among row xs) ts) is

@@ -8,7 +8,7 @@ use Rattle.dap_json.specs.Sound.{IsSound}
 use Rattle.dap_json.specs.More.{members_of}
 use Rattle.dap_json.specs.declared.more.Member.{Member}
 use Rattle.dap_body.specs.Beside.{fields_of, before_key, after_key}
-use Rattle.dap_body.specs.Row.{Field, Row, value_data, is_in_order}
+use Rattle.dap_body.specs.Row.{Field, Row, whole_if_any, value_data, is_in_order}
 use Rattle.dap_body.specs.declared.body.Body.{Body}
 use Rattle.dap_body.specs.declared.body.Body.TheVariants.{Initialize}
 
@@ -40,6 +40,12 @@ wrote_among (field ∷ row) ms ts = wrote_among row (after_key field.0 ms) (wrot
 pub record PutsBefore (key : List ℕ) (ms : List Member) (ts : List Token) (left : List Member) (us : List Token) : Type 0 where
   pub adds : us ≡ wrote_row (fields_of (before_key key ms)) ts
   pub behind : left ≡ after_key key ms
+
+-- the same, and nothing at the key
+pub record PutsNone (key : List ℕ) (ms : List Member) (ts : List Token) (left : List Member) (us : List Token) : Type 0 where
+  pub before : List Token
+  pub puts : PutsBefore key ms ts left before
+  pub own : us ≡ wrote (key, whole_if_any None) before
 
 abbrev pub IsSoundIfAny : Option Data → Type 0
 IsSoundIfAny None = ⊤

@@ -1,5 +1,5 @@
 -- The bodies of responses, and the objects in them, as rows of fields: Specification, the types whose names end in "Response", and "Types".
--- Which of the optional members are a row's own is this profile's choice. One that a row never has, as `variablesReference` of a value that is set, is its own all the same where a client would take it for a reference.
+-- Which of the optional members are a row's own is this profile's choice. A member that a row never has is its own all the same where a reader would take it for references, as `variablesReference` of a value that is set.
 use Rattle.std.specs.Prelude.{ℕ, List, [], ◌∷◌, true, false, Option, None, codes, option_map}
 use Rattle.serde_json.specs.Data.{Data}
 use Rattle.dap_json.specs.declared.more.Member.{Member}
@@ -71,7 +71,9 @@ abbrev pub variables_row : List Variable → Row
 variables_row variables = (codes "variables", tree (list_of variable variables)) ∷ []
 
 abbrev pub evaluate_fields : List ℕ → ℕ → Row
-evaluate_fields result reference = (codes "result", text result) ∷ (codes "variablesReference", whole reference) ∷ []
+evaluate_fields result reference =
+    (codes "result", text result) ∷ (codes "scopes", whole_if_any None) ∷ (codes "stackFrames", whole_if_any None) ∷ (codes "variables", whole_if_any None)
+    ∷ (codes "variablesReference", whole reference) ∷ []
 
 abbrev pub evaluate_row : List ℕ → ℕ → List Member → Row
 evaluate_row result reference more = beside (evaluate_fields result reference) more
@@ -83,7 +85,9 @@ abbrev pub loaded_sources_row : List Source → Row
 loaded_sources_row sources = (codes "sources", tree (list_of source sources)) ∷ []
 
 abbrev pub set_variable_fields : List ℕ → Row
-set_variable_fields value = (codes "value", text value) ∷ (codes "variablesReference", whole_if_any None) ∷ []
+set_variable_fields value =
+    (codes "scopes", whole_if_any None) ∷ (codes "stackFrames", whole_if_any None) ∷ (codes "value", text value) ∷ (codes "variables", whole_if_any None)
+    ∷ (codes "variablesReference", whole_if_any None) ∷ []
 
 abbrev pub set_variable_row : List ℕ → List Member → Row
 set_variable_row value more = beside (set_variable_fields value) more

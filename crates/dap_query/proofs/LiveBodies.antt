@@ -147,10 +147,18 @@ value-one : (refs : LiveReferences) (value : Evaluation) (ns : List ℕ) → All
 value-one refs value [] h = absurd h
 value-one refs value (n ∷ ns) h = one-live refs value.holder n h.0
 
-pub value-live : (refs : LiveReferences) (value : Evaluation) (ns : List ℕ) → AllZip (IsNumberOf refs) (value_objects value) ns → (o : Option Command) → AreLive refs (references_given_in o (Some (evaluate_body value.value (number_in ns))))
+pub value-live : (refs : LiveReferences) (value : Evaluation) (ns : List ℕ) → AllZip (IsNumberOf refs) (value_objects value) ns → (o : Option Command) → AreLive refs (references_given_in o (Some (evaluate_body value.value (number_in ns) value.more)))
 value-live refs value ns h None = tt
-value-live refs value ns h (Some command.Evaluate) = subst (λ (xs : List ℕ). AreLive refs (map holder xs)) (sym (bodies_give_their_numbers.evaluate value.value (number_in ns))) (value-one refs value ns h)
-value-live refs value ns h (Some command.SetVariable) = subst (λ (xs : List ℕ). AreLive refs (map holder xs)) (sym (bodies_give_their_numbers.evaluate value.value (number_in ns))) (value-one refs value ns h)
+value-live refs value ns h (Some command.Evaluate) =
+    subst (λ (xs : List ℕ). AreLive refs (map holder xs)) (sym (bodies_give_their_numbers.evaluate value.value (number_in ns) value.more)) (value-one refs value ns h)
+value-live refs value ns h (Some command.SetVariable) =
+    subst (λ (xs : List ℕ). AreLive refs (map holder xs)) (sym (bodies_give_their_numbers.evaluate value.value (number_in ns) value.more)) (value-one refs value ns h)
+value-live refs value ns h (Some command.StackTrace) =
+    subst (λ (xs : List ℕ). AreLive refs (map frame xs)) (sym (bodies_give_their_numbers.evaluate_alone value.value (number_in ns) value.more).0) tt
+value-live refs value ns h (Some command.Scopes) =
+    subst (λ (xs : List ℕ). AreLive refs (map holder xs)) (sym (bodies_give_their_numbers.evaluate_alone value.value (number_in ns) value.more).1) tt
+value-live refs value ns h (Some command.Variables) =
+    subst (λ (xs : List ℕ). AreLive refs (map holder xs)) (sym (bodies_give_their_numbers.evaluate_alone value.value (number_in ns) value.more).2) tt
 value-live refs value ns h (Some _) = tt
 
 -- ---- bodies of queries that give nothing
@@ -195,9 +203,9 @@ value-just refs value [] h = absurd h
 value-just refs value (n ∷ ns) h =
     given-if refs holder 1 (λ (x : Unit {0}). None) (λ k x. k) (λ (k : ℕ). k) (nat_le 1 n && nat_le n 2147483647) n [] ∙ ap (λ (ps : List (ReferenceKind × ℕ)). ps ++ []) (holder-read refs value.holder n h.0)
 
-pub value-gives : (value : Evaluation) → GivesNumbers command.Evaluate (value_objects value) (λ ns. Some (evaluate_body value.value (number_in ns)))
+pub value-gives : (value : Evaluation) → GivesNumbers command.Evaluate (value_objects value) (λ ns. Some (evaluate_body value.value (number_in ns) value.more))
 value-gives value = record {
-  just = λ refs ns h. ap (map holder) (bodies_give_their_numbers.evaluate value.value (number_in ns)) ∙ value-just refs value ns h;
+  just = λ refs ns h. ap (map holder) (bodies_give_their_numbers.evaluate value.value (number_in ns) value.more) ∙ value-just refs value ns h;
   live = λ refs ns h. value-live refs value ns h;
 }
 

@@ -15,17 +15,17 @@ use Rattle.dap_tables.specs.References.{LiveReferences, no_references, frame_of,
 -- ---- sources
 
 abbrev source : Option (List ℕ) → Source
-source path = record { name = codes "a.c"; path = path; on_disk = false }
+source path = record { name = codes "a.c"; path = path; on_disk = false; more = [] }
 
 abbrev on_disk : Option (List ℕ) → Source
-on_disk path = record { name = codes "a.c"; path = path; on_disk = true }
+on_disk path = record { name = codes "a.c"; path = path; on_disk = true; more = [] }
 
 -- only a file that is on disk and has a path has no number
 numbers_of_sources : (reference_of 2 (source None) ≡ Some 2) × (reference_of 2 (source (Some (codes "/a.c"))) ≡ Some 2) × (reference_of 2 (on_disk None) ≡ Some 2) × (reference_of 2 (on_disk (Some (codes "/a.c"))) ≡ None)
 numbers_of_sources = (refl, refl, refl, refl)
 
 -- they are counted from 1, those on disk too
-in_order : protocol_sources (on_disk (Some (codes "/a.c")) ∷ source None ∷ []) ≡ record { name = codes "a.c"; path = Some (codes "/a.c"); source_reference = None } ∷ record { name = codes "a.c"; path = None; source_reference = Some 2 } ∷ []
+in_order : protocol_sources (on_disk (Some (codes "/a.c")) ∷ source None ∷ []) ≡ record { name = codes "a.c"; path = Some (codes "/a.c"); source_reference = None; more = [] } ∷ record { name = codes "a.c"; path = None; source_reference = Some 2; more = [] } ∷ []
 in_order = refl
 
 of_a_frame : (source_of_frame (source None ∷ on_disk (Some (codes "/a.c")) ∷ []) 1 ≡ numbered_source 2 (on_disk (Some (codes "/a.c")))) × (source_of_frame (source None ∷ []) 1 ≡ no_source)
@@ -46,7 +46,7 @@ abbrev from_0 : Options
 from_0 = record usual_options { lines_start_at_1 = false; columns_start_at_1 = false }
 
 abbrev variable : List ℕ → Variable
-variable name = record { name = name; value = codes "1"; holder = None }
+variable name = record { name = name; value = codes "1"; holder = None; more = [] }
 
 all_unless_it_pages : (page usual_options 1 1 (variable (codes "a") ∷ variable (codes "b") ∷ []) ≡ variable (codes "a") ∷ variable (codes "b") ∷ []) × (page paging 1 1 (variable (codes "a") ∷ variable (codes "b") ∷ []) ≡ variable (codes "b") ∷ [])
 all_unless_it_pages = (refl, refl)
@@ -55,15 +55,15 @@ lines_and_columns : (line_shown usual_options 1 ≡ 1) × (line_shown from_0 1 �
 lines_and_columns = (refl, refl, refl, refl, refl)
 
 abbrev frame_at : Option ℕ → ℕ → Frame
-frame_at source line = record { object = 7; name = codes "f"; source = source; line = line }
+frame_at source line = record { object = 7; name = codes "f"; source = source; line = line; more = [] }
 
 -- a frame without a source has line 0 and column 0, from wherever the client counts
-without_a_source : (protocol_frame usual_options (source None ∷ []) 1 (frame_at None 0) ≡ record { id = 1; name = codes "f"; source = None; line = 0; column = 0 })
-    × (protocol_frame from_0 (source None ∷ []) 1 (frame_at None 0) ≡ record { id = 1; name = codes "f"; source = None; line = 0; column = 0 })
+without_a_source : (protocol_frame usual_options (source None ∷ []) 1 (frame_at None 0) ≡ record { id = 1; name = codes "f"; source = None; line = 0; column = 0; more = [] })
+    × (protocol_frame from_0 (source None ∷ []) 1 (frame_at None 0) ≡ record { id = 1; name = codes "f"; source = None; line = 0; column = 0; more = [] })
 without_a_source = (refl, refl)
 
-with_a_source : (protocol_frame usual_options (source None ∷ []) 1 (frame_at (Some 0) 3) ≡ record { id = 1; name = codes "f"; source = Some (numbered_source 1 (source None)); line = 3; column = 1 })
-    × (protocol_frame from_0 (source None ∷ []) 1 (frame_at (Some 0) 3) ≡ record { id = 1; name = codes "f"; source = Some (numbered_source 1 (source None)); line = 2; column = 0 })
+with_a_source : (protocol_frame usual_options (source None ∷ []) 1 (frame_at (Some 0) 3) ≡ record { id = 1; name = codes "f"; source = Some (numbered_source 1 (source None)); line = 3; column = 1; more = [] })
+    × (protocol_frame from_0 (source None ∷ []) 1 (frame_at (Some 0) 3) ≡ record { id = 1; name = codes "f"; source = Some (numbered_source 1 (source None)); line = 2; column = 0; more = [] })
 with_a_source = (refl, refl)
 
 -- ---- numbers

@@ -60,14 +60,14 @@ column_shown options = if options.columns_start_at_1 then 1 else 0
 -- ---- what bodies are made of
 
 abbrev pub protocol_thread : Thread → ThreadBody
-protocol_thread t = record { id = t.id; name = t.name }
+protocol_thread t = record { id = t.id; name = t.name; more = t.more }
 
 -- a file that the client reads by its path has none
 abbrev pub reference_of : ℕ → Source → Option ℕ
 reference_of number source = if source.on_disk && is_some source.path then None else Some number
 
 abbrev pub numbered_source : ℕ → Source → SourceBody
-numbered_source number source = record { name = source.name; path = source.path; source_reference = reference_of number source }
+numbered_source number source = record { name = source.name; path = source.path; source_reference = reference_of number source; more = source.more }
 
 -- each with its number, from 1
 abbrev pub protocol_sources : List Source → List SourceBody
@@ -79,7 +79,7 @@ protocol_source index source = numbered_source (index + 1) source
 
 -- at an index past the sources, which no frame has
 abbrev pub no_source : SourceBody
-no_source = record { name = []; path = None; source_reference = Some 0 }
+no_source = record { name = []; path = None; source_reference = Some 0; more = [] }
 
 abbrev pub source_of_frame : List Source → ℕ → SourceBody
 source_of_frame sources index = unwrap_or (option_map (protocol_source index) (slice_get sources index)) no_source
@@ -98,16 +98,16 @@ column_in options None = 0
 column_in options (Some source) = column_shown options
 
 abbrev pub frame_with : Options → ℕ → Frame → Option SourceBody → StackFrame
-frame_with options id f source = record { id = id; name = f.name; source = source; line = line_in options source f.line; column = column_in options source }
+frame_with options id f source = record { id = id; name = f.name; source = source; line = line_in options source f.line; column = column_in options source; more = f.more }
 
 abbrev pub protocol_frame : Options → List Source → ℕ → Frame → StackFrame
 protocol_frame options sources id f = frame_with options id f (optional_source_of_frame sources f.source)
 
 abbrev pub protocol_scope : ℕ → Scope → ScopeBody
-protocol_scope number scope = record { name = scope.name; variables_reference = number }
+protocol_scope number scope = record { name = scope.name; variables_reference = number; more = scope.more }
 
 abbrev pub protocol_variable : ℕ → Variable → VariableBody
-protocol_variable number variable = record { name = variable.name; value = variable.value; variables_reference = number }
+protocol_variable number variable = record { name = variable.name; value = variable.value; variables_reference = number; more = variable.more }
 
 -- each with its number
 abbrev pub with_numbers : {A B : Type 0} → (ℕ → A → B) → List ℕ → List A → List B
@@ -144,7 +144,7 @@ abbrev pub variables_result : QueryState → List Variable → QueryResult
 variables_result q variables = result_with_references q (variable_objects variables) (λ numbers. variables_body (with_numbers protocol_variable numbers variables))
 
 abbrev pub evaluate_result : QueryState → Evaluation → QueryResult
-evaluate_result q value = result_with_references q (value_objects value) (λ numbers. evaluate_body value.value (number_in numbers))
+evaluate_result q value = result_with_references q (value_objects value) (λ numbers. evaluate_body value.value (number_in numbers) value.more)
 
 -- only a client that pages variables gets a part of them
 abbrev pub page : Options → ℕ → ℕ → List Variable → List Variable

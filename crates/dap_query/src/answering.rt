@@ -121,11 +121,16 @@ impl Queries {
             Some(number) => self.object(number),
         };
         let told = debuggee.evaluate(alloc, frame, asked.expression.as_str())?;
-        let Evaluation { value, holder } = told;
+        let Evaluation {
+            value,
+            holder,
+            more,
+        } = told;
         let number = self.number(holder_in(holder))?;
         Ok(Some(Body::Evaluate {
             result: value,
             variables_reference: number,
+            more,
         }))
     }
 

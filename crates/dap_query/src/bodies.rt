@@ -11,7 +11,7 @@ ghost use Rattle.dap_query.specs.Bodies.{protocol_thread, numbered_source, refer
 use crate::options::Options;
 use dap_body::StackFrame;
 use dap_debuggee::{Debuggee, DebuggeeFault, Frame, Scope, Source, Thread, Variable};
-use dap_json::Text;
+use dap_json::{More, Text};
 use dap_tables::{ReferenceKind, Target};
 use std::alloc::{AllocError, Global};
 
@@ -87,10 +87,11 @@ pub(crate) fn frames_named(
 ) -> Result<Vec<Option<Target>>, AllocError>
     ensures { IfOk result (λ named. named.items ≡ map (λ (f : FrameWord). Some (frame_of f.object)) frames.now) }
 {
-    frames
-        .iter()
-        .map(|told| Some(frame(told.object)))
-        .collect(alloc)
+    let mut named = Vec::with_capacity(alloc, frames.len())?;
+    for told in frames {
+        named.push(Some(frame(told.object)))?;
+    }
+    Ok(named)
 }
 
 /// What the numbers of scopes name.
@@ -100,10 +101,11 @@ pub(crate) fn scopes_named(
 ) -> Result<Vec<Option<Target>>, AllocError>
     ensures { IfOk result (λ named. named.items ≡ map (λ (x : ScopeWord). Some (holder_of x.holder)) scopes.now) }
 {
-    scopes
-        .iter()
-        .map(|told| Some(holder(told.holder)))
-        .collect(alloc)
+    let mut named = Vec::with_capacity(alloc, scopes.len())?;
+    for told in scopes {
+        named.push(Some(holder(told.holder)))?;
+    }
+    Ok(named)
 }
 
 /// What the numbers of variables name.
@@ -113,10 +115,11 @@ pub(crate) fn variables_named(
 ) -> Result<Vec<Option<Target>>, AllocError>
     ensures { IfOk result (λ named. named.items ≡ map (λ (x : VariableWord). option_map holder_of x.holder) variables.now) }
 {
-    variables
-        .iter()
-        .map(|told| holder_in(told.holder))
-        .collect(alloc)
+    let mut named = Vec::with_capacity(alloc, variables.len())?;
+    for told in variables {
+        named.push(holder_in(told.holder))?;
+    }
+    Ok(named)
 }
 
 // ---- lists of bodies
@@ -124,8 +127,8 @@ pub(crate) fn variables_named(
 fn protocol_thread(thread: Thread) -> dap_body::Thread
     ensures { result ≡ protocol_thread thread }
 {
-    let Thread { id, name } = thread;
-    dap_body::Thread { id, name }
+    let Thread { id, name, more } = thread;
+    dap_body::Thread { id, name, more }
 }
 
 pub(crate) fn protocol_threads(
@@ -155,11 +158,17 @@ fn numbered_source(number: u32, source: Source) -> dap_body::Source
     ensures { result ≡ numbered_source number source }
 {
     let source_reference = reference_of(number, &source);
-    let Source { name, path, .. } = source;
+    let Source {
+        name,
+        path,
+        on_disk: _,
+        more,
+    } = source;
     dap_body::Source {
         name,
         path,
         source_reference,
+        more,
     }
 }
 
@@ -192,6 +201,7 @@ fn source_of_frame<D: Debuggee>(
             name: Text::copied(alloc, "")?,
             path: None,
             source_reference: Some(0),
+            more: More::none(),
         }),
         Err(DebuggeeFault::OutOfMemory) => Err(AllocError),
     }
@@ -257,6 +267,7 @@ fn frame_with(
         name,
         source: _,
         line,
+        more,
     } = frame;
     match source {
         None => StackFrame {
@@ -265,6 +276,7 @@ fn frame_with(
             source: None,
             line: 0,
             column: 0,
+            more,
         },
         Some(source) => StackFrame {
             id,
@@ -272,6 +284,7 @@ fn frame_with(
             source: Some(source),
             line: line_shown(options, line),
             column: column_shown(options),
+            more,
         },
     }
 }
@@ -308,10 +321,15 @@ pub(crate) fn protocol_frames<D: Debuggee>(
 fn protocol_scope(number: u32, scope: Scope) -> dap_body::Scope
     ensures { result ≡ protocol_scope number scope }
 {
-    let Scope { name, holder: _ } = scope;
+    let Scope {
+        name,
+        holder: _,
+        more,
+    } = scope;
     dap_body::Scope {
         name,
         variables_reference: number,
+        more,
     }
 }
 
@@ -337,11 +355,13 @@ fn protocol_variable(number: u32, variable: Variable) -> dap_body::Variable
         name,
         value,
         holder: _,
+        more,
     } = variable;
     dap_body::Variable {
         name,
         value,
         variables_reference: number,
+        more,
     }
 }
 
