@@ -33,8 +33,8 @@ IsFreshWithin limits h = h.client.session ≡ fresh_session (settings_of limits)
 abbrev pub KeepsLimits : HeldClient → HeldClient → Type 0
 KeepsLimits old new = new.client.session.limits ≡ old.client.session.limits
 
-abbrev pub KeepsSession : HeldClient → HeldClient → Type 0
-KeepsSession old new = new.client.session ≡ old.client.session
+abbrev pub KeepsTables : HeldClient → HeldClient → Type 0
+KeepsTables old new = new.client.session ≡ old.client.session
 
 -- a call was sent, with this number
 pub record SendsCall (old new : HeldClient) (call : Call) (seq : ℕ) : Type 0 where

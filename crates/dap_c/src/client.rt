@@ -13,7 +13,7 @@ ghost use Rattle.dap_client.specs.TerminalResponse.{is_plain_terminal};
 ghost use Rattle.dap_c_parts.specs.Behind.{FromTo};
 ghost use Rattle.dap_c_parts.specs.Finds.{FindsNothing};
 ghost use Rattle.dap_c.specs.CallGiven.{IsCallOf, IsCodeOfCall, AcceptsCall};
-ghost use Rattle.dap_c.specs.ClientCalls.{Sends, Refuses, Answers, RefusesAnswer, TakesPiece, RefusesPiece, IsAsBefore, bytes_so_far, HasNothing, terminal_of, process_of, SendsCall, RefusesCall, AnswersTerminal, RefusesTerminal, TakesBytes, RefusesBytes, IfPlainCall, LeavesBytes, KeepsFrame, IsPlainTerminal, LeavesNothing, LatchesFault, PutsBytes, PutsFrame, PutsNoFrame, IsFreshWithin, KeepsLimits, KeepsSession};
+ghost use Rattle.dap_c.specs.ClientCalls.{Sends, Refuses, Answers, RefusesAnswer, TakesPiece, RefusesPiece, IsAsBefore, bytes_so_far, HasNothing, terminal_of, process_of, SendsCall, RefusesCall, AnswersTerminal, RefusesTerminal, TakesBytes, RefusesBytes, IfPlainCall, LeavesBytes, KeepsFrame, IsPlainTerminal, LeavesNothing, LatchesFault, PutsBytes, PutsFrame, PutsNoFrame, IsFreshWithin, KeepsLimits, KeepsTables};
 ghost use Rattle.dap_c.specs.ClientFaults.{send_number, answer_number, take_number, IsFaultFound};
 ghost use Rattle.dap_c_parts.specs.Limited.{settings_of, AreOutOfRange};
 ghost use Rattle.dap_c.specs.ClientBehind.{IsFull, IsEmpty, IfFull, FromTo, FromEmpty};
@@ -418,7 +418,7 @@ pub extern "C" fn yt_client_take(
     ensures open { FromTo client.old client.new (λ c d. result ≡ YT_OK → d.client.fault ≡ None) }
     ensures limits { FromTo client.old client.new KeepsLimits }
     ensures refuses { FromTo client.old client.new (RefusesPiece piece.now result found.new) }
-    ensures tables { FromTo client.old client.new (λ c d. result ≢ YT_OK → KeepsSession c d) }
+    ensures tables { FromTo client.old client.new (λ c d. result ≢ YT_OK → KeepsTables c d) }
 
     // What there is to fetch; where it is refused, nothing.
     ensures length { FromTo client.old client.new (LeavesBytes found.new.bytes) }
