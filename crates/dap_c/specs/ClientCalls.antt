@@ -169,8 +169,8 @@ abbrev pub PutsFrame : HeldClient → List ℕ → List ℕ → Type 0
 PutsFrame h old new = (h.whole ≡ true) × (new ≡ with_front h.frame.items old)
 
 -- none became whole, and the buffer stays
-abbrev pub PutsNoFrame : HeldClient → List ℕ → List ℕ → Type 0
-PutsNoFrame h old new = (h.whole ≡ false) × (new ≡ old)
+abbrev pub HasNoFrame : HeldClient → List ℕ → List ℕ → Type 0
+HasNoFrame h old new = (h.whole ≡ false) × (new ≡ old)
 
 -- where a fault has closed it
 abbrev pub IfClosed : HeldClient → Type 0 → Type 0

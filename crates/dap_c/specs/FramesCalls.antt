@@ -61,5 +61,5 @@ abbrev pub PutsBody : Intake → List ℕ → List ℕ → Type 0
 PutsBody i old new = IsReady i × (new ≡ with_front i.held old)
 
 -- none is ready, and the buffer stays
-abbrev pub PutsNoBody : Intake → List ℕ → List ℕ → Type 0
-PutsNoBody i old new = (IsReady i → ⊥) × (new ≡ old)
+abbrev pub HasNoBody : Intake → List ℕ → List ℕ → Type 0
+HasNoBody i old new = (IsReady i → ⊥) × (new ≡ old)

@@ -13,7 +13,7 @@ ghost use Rattle.dap_client.specs.TerminalResponse.{is_plain_terminal};
 ghost use Rattle.dap_c_parts.specs.Behind.{FromTo};
 ghost use Rattle.dap_c_parts.specs.Finds.{FindsNothing};
 ghost use Rattle.dap_c.specs.CallGiven.{IsCallOf, IsCodeOfCall, AcceptsCall};
-ghost use Rattle.dap_c.specs.ClientCalls.{Sends, Refuses, Answers, RefusesAnswer, TakesPiece, RefusesPiece, IsAsBefore, bytes_so_far, HasNothing, terminal_of, process_of, SendsCall, RefusesCall, AnswersTerminal, RefusesTerminal, TakesBytes, RefusesBytes, IfPlainCall, LeavesBytes, KeepsFrame, IsPlainTerminal, LeavesNothing, LatchesFault, PutsBytes, PutsFrame, PutsNoFrame, IsFreshWithin, KeepsLimits, KeepsTables};
+ghost use Rattle.dap_c.specs.ClientCalls.{Sends, Refuses, Answers, RefusesAnswer, TakesPiece, RefusesPiece, IsAsBefore, bytes_so_far, HasNothing, terminal_of, process_of, SendsCall, RefusesCall, AnswersTerminal, RefusesTerminal, TakesBytes, RefusesBytes, IfPlainCall, LeavesBytes, KeepsFrame, IsPlainTerminal, LeavesNothing, LatchesFault, PutsBytes, PutsFrame, HasNoFrame, IsFreshWithin, KeepsLimits, KeepsTables};
 ghost use Rattle.dap_c.specs.ClientFaults.{send_number, answer_number, take_number, IsFaultFound};
 ghost use Rattle.dap_c_parts.specs.Limited.{settings_of, AreOutOfRange};
 ghost use Rattle.dap_c.specs.ClientBehind.{IsFull, IsEmpty, IfFull, FromTo, FromEmpty};
@@ -471,7 +471,7 @@ pub extern "C" fn yt_client_frame(alloc: Global, client: &mut YtClient, out: &mu
     ensures same { client.new.inner.value ≡ client.old.inner.value }
     ensures frame { IfFull client.old (λ c. result ≡ YT_OK → PutsFrame c out.old out.new) }
     ensures small { IfFull client.old (λ c. StaysIfSmall c.frame.items result out.old out.new) }
-    ensures nothing { IfFull client.old (λ c. result ≡ YT_NOTHING → PutsNoFrame c out.old out.new) }
+    ensures nothing { IfFull client.old (λ c. result ≡ YT_NOTHING → HasNoFrame c out.old out.new) }
     ensures codes { IsFull client.old → result ≢ YT_OK → result ≢ YT_SMALL → result ≡ YT_NOTHING }
 {
     let Some(held) = take_out(alloc, client) else {

@@ -14,7 +14,7 @@ ghost use Rattle.dap_slot.specs.Owned.{handle_owns};
 ghost use Rattle.dap_c_parts.specs.Limited.{settings_of, AreOutOfRange};
 ghost use Rattle.dap_c.specs.Refused.{end_number, ClosesWith, IsRefusedAgain};
 ghost use Rattle.dap_c.specs.FramesBehind.{IsFull, IsEmpty, IfFull, FromTo, FromEmpty};
-ghost use Rattle.dap_c.specs.FramesCalls.{CompletesFrame, GathersPart, ClosesReader, ClosesAtBytes, UsesBytes, TellsBody, StaysReady, StaysGivenUp, LatchesRefusal, StandsAsBefore, EndsAsItStands, IfClosed, PutsBody, PutsNoBody};
+ghost use Rattle.dap_c.specs.FramesCalls.{CompletesFrame, GathersPart, ClosesReader, ClosesAtBytes, UsesBytes, TellsBody, StaysReady, StaysGivenUp, LatchesRefusal, StandsAsBefore, EndsAsItStands, IfClosed, PutsBody, HasNoBody};
 ghost use Rattle.dap_c_parts.specs.Buffer.{StaysIfSmall};
 
 use dap_c_parts::causes::cause_of;
@@ -249,7 +249,7 @@ pub extern "C" fn yt_frames_body(alloc: Global, frames: &mut YtFrames, out: &mut
     ensures same { frames.new.inner.value ≡ frames.old.inner.value }
     ensures body { IfFull frames.old (λ f. result ≡ YT_OK → PutsBody f out.old out.new) }
     ensures small { IfFull frames.old (λ f. StaysIfSmall f.held result out.old out.new) }
-    ensures nothing { IfFull frames.old (λ f. result ≡ YT_NOTHING → PutsNoBody f out.old out.new) }
+    ensures nothing { IfFull frames.old (λ f. result ≡ YT_NOTHING → HasNoBody f out.old out.new) }
     ensures codes { IsFull frames.old → result ≢ YT_OK → result ≢ YT_SMALL → result ≡ YT_NOTHING }
 {
     let Some(mut held) = take_out(alloc, frames) else {
