@@ -29,20 +29,20 @@ abbrev pub AddsRequest : {A : Type 0} → ℕ → List ℕ → Option Data → V
 AddsRequest seq command arguments old new = AddsText (request_message seq command arguments) old new
 
 -- the text of a message is read as that message
-abbrev pub IsReadAgain : Message → Type 0
-IsReadAgain m = Msg (canon m) m
+abbrev pub CanonIsRead : Message → Type 0
+CanonIsRead m = Msg (canon m) m
 
 -- where its numbers are in their range, and its command is no longer than one may be
 abbrev pub FailureReadsBack : ℕ → ℕ → List ℕ → Failure → Type 0
 FailureReadsBack seq request_seq command failure =
-    seq ≤ max_seq → request_seq ≤ max_seq → length command ≤ max_command → IsReadAgain (failure_response seq request_seq command failure)
+    seq ≤ max_seq → request_seq ≤ max_seq → length command ≤ max_command → CanonIsRead (failure_response seq request_seq command failure)
 
 abbrev pub AnswerReadsBack : ℕ → ℕ → List ℕ → Option Body → Type 0
 AnswerReadsBack seq request_seq command body =
-    seq ≤ max_seq → request_seq ≤ max_seq → length command ≤ max_command → IsReadAgain (success_response seq request_seq command (data_in body))
+    seq ≤ max_seq → request_seq ≤ max_seq → length command ≤ max_command → CanonIsRead (success_response seq request_seq command (data_in body))
 
 abbrev pub EventReadsBack : ℕ → List ℕ → Option EventBody → Type 0
-EventReadsBack seq event body = seq ≤ max_seq → IsReadAgain (event_message seq event (event_data_in body))
+EventReadsBack seq event body = seq ≤ max_seq → CanonIsRead (event_message seq event (event_data_in body))
 
 abbrev pub RequestReadsBack : ℕ → List ℕ → Option Data → Type 0
-RequestReadsBack seq command arguments = seq ≤ max_seq → length command ≤ max_command → IsReadAgain (request_message seq command arguments)
+RequestReadsBack seq command arguments = seq ≤ max_seq → length command ≤ max_command → CanonIsRead (request_message seq command arguments)
