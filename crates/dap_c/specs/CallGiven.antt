@@ -22,3 +22,7 @@ pub record IsCallOf (name arguments : List ℕ) (call : Call) : Type 0 where
 -- a command or arguments that are none, or memory that was refused, as a code
 abbrev pub IsCodeOfCall : ℕ → Type 0
 IsCodeOfCall code = (code ≡ 102) ⊎ (code ≡ 103) ⊎ (code ≡ 104)
+
+-- a code that does not say that they are none
+abbrev pub AcceptsCall : ℕ → Type 0
+AcceptsCall code = (code ≡ 102 → ⊥) × (code ≡ 103 → ⊥)

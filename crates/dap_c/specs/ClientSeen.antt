@@ -5,12 +5,13 @@ use Rattle.dap_frame.specs.Settings.{Settings}
 use Rattle.dap_command.specs.declared.capabilities.Capabilities.{Capabilities}
 use Rattle.dap_history.specs.History.{Entry, Came, Went, waiting}
 use Rattle.dap_client.specs.ClientState.{ClientState}
-use Rattle.dap_client.specs.Seen.{phase_in, ready_in, references_in}
+use Rattle.dap_client.specs.Seen.{capabilities_in, phase_in, ready_in, references_in}
 use Rattle.dap_client.specs.Session.{oldest_of}
 use Rattle.dap_client.specs.declared.phase.Phase.{Phase}
 use Rattle.dap_client.specs.declared.phase.Phase.TheVariants.{Fresh, Initializing, Configuring, Running, Stopped, Resuming, Exited, Ended}
 use Rattle.dap_c.specs.declared.client_state.YtCapabilities.{YtCapabilities}
 use Rattle.dap_c.specs.declared.client_state.YtClientSeen.{YtClientSeen}
+use Rattle.dap_c.specs.declared.held_client.HeldClient.{HeldClient}
 
 abbrev pub phase_number : Phase → ℕ
 phase_number Fresh = 0
@@ -62,3 +63,11 @@ pub record AreFlagsOf (flags : YtCapabilities) (c : Capabilities) : Type 0 where
   pub set_variable : flags.set_variable ≡ c.set_variable
   pub step_back : flags.step_back ≡ c.step_back
   pub terminate : flags.terminate ≡ c.terminate
+
+-- the same, of what came and went
+abbrev pub AreFlagsIn : YtCapabilities → List Entry → Type 0
+AreFlagsIn flags h = AreFlagsOf flags (capabilities_in h)
+
+-- what the adapter of a client offers
+abbrev pub flags_seen : HeldClient → Capabilities
+flags_seen h = h.client.session.seen.capabilities

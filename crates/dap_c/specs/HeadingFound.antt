@@ -1,8 +1,10 @@
 -- What a message says of itself, as a caller in C sees it.
 use Rattle.std.specs.Prelude.{◌≡◌, ℕ, List, Bool, false, length}
+use Rattle.dap_envelope.specs.Meaning.{Msg}
 use Rattle.dap_envelope.specs.declared.message.Message.{Message}
 use Rattle.dap_envelope.specs.declared.message.Kind.{Kind}
 use Rattle.dap_envelope.specs.declared.message.Kind.TheVariants.{Request, Response, Event, Other}
+use Rattle.dap_c_parts.specs.Buffer.{with_front}
 use Rattle.dap_c.specs.declared.heading.YtHeadingFound.{YtHeadingFound}
 
 abbrev pub kind_number : Kind → ℕ
@@ -38,3 +40,7 @@ pub record IsFound (found : YtHeadingFound) (m : Message) : Type 0 where
   pub name : found.name ≡ length (name_of m.kind)
   pub request_seq : found.request_seq ≡ answered m.kind
   pub success : found.success ≡ succeeds m.kind
+
+-- a body is a message, of which this is found, and with the code 0 its name is put into a buffer
+abbrev pub HasHeading : List ℕ → YtHeadingFound → ℕ → List ℕ → List ℕ → Type 0
+HasHeading body found code old new = (m : Message) × Msg body m × IsFound found m × (code ≡ 0 → new ≡ with_front (name_of m.kind) old)

@@ -1,7 +1,10 @@
 pub mod CallGiven
 pub mod CheckFound
+pub mod ClientBehind
 pub mod ClientCalls
 pub mod ClientFaults
 pub mod ClientSeen
+pub mod FramesBehind
+pub mod FramesCalls
 pub mod HeadingFound
 pub mod Refused

@@ -1,18 +1,17 @@
 //! Whether a transcript keeps the rules, and why a line of it breaks one: a text comes in; a verdict, or a sentence in the
 //! caller's buffer, goes out. Nothing else is touched.
-ghost use Rattle.std.specs.Prelude.{◌≡◌, ◌≢◌, ◌⊎◌, ◌++◌, ◌==◌, ◌∷◌, List, ℕ, IfOk, IfErr, IfSome, MatchResult, Option, Some, None, false, option_map, string_bytes};
+ghost use Rattle.std.specs.Prelude.{◌≡◌, ◌≢◌, ◌⊎◌, ◌++◌, ◌==◌, ◌∷◌, List, IfErr, MatchResult, None, false, option_map, string_bytes};
 ghost use Rattle.std.specs.List.{list_any};
 ghost use Rattle.std.specs.Str.Lines.{lines};
 ghost use Rattle.dap_check.specs.Legal.{IsVerdict};
 ghost use Rattle.dap_check.specs.Transcript.{AreLines, FirstRefused, IsRefusedIn};
 ghost use Rattle.dap_check.specs.declared.checking.CheckFault.{CheckFault};
 ghost use Rattle.dap_check.specs.declared.line.Line.{Line};
-ghost use Rattle.dap_check.specs.declared.rule.AnySeq.{AnySeq};
 ghost use Rattle.dap_check.specs.declared.rule.Checked.{Checked};
-ghost use Rattle.dap_check.specs.declared.rule.Rule.{Rule};
 ghost use Rattle.dap_explain.specs.Reasons.{reason_of};
 ghost use Rattle.dap_explain.specs.Sentences.{sentence_of};
-ghost use Rattle.dap_c.specs.CheckFound.{any_of, rule_of, fault_code, fault_line, TellsChecked, TellsRefused, IsCodeOfLine, PutsIfAny};
+ghost use Rattle.dap_c.specs.CheckFound.{any_of, rule_of, fault_code, fault_line, TellsChecked, TellsRefused, IsCodeOfLine, PutsIfAny, FindsNone, FindsLine, RefusesText, TellsVerdict, TellsFault, Explains, ExplainsNone, IsRefusedWith};
+ghost use Rattle.std.specs.Option.{ForSome};
 
 use dap_c_parts::codes::{
     YT_BAD_ARGUMENTS, YT_BAD_LINE, YT_FINDING, YT_NO_MEMORY, YT_NO_MESSAGE, YT_NOTHING, YT_OK,
@@ -122,14 +121,15 @@ fn judge(alloc: Global, text: &[u8], any_seq: AnySeq, verdict: &mut YtVerdict) -
 /// the adapter, 3 of both.
 #[unsafe(no_mangle)]
 pub extern "C" fn yt_check(alloc: Global, text: &[u8], any_seq: u32, verdict: &mut YtVerdict) -> u32
-    ensures unknown { any_of any_seq ≡ None → (result ≡ YT_BAD_ARGUMENTS) × (verdict.new ≡ verdict.old) }
-    ensures legal { (any : AnySeq) → any_of any_seq ≡ Some any → result ≡ YT_OK → (transcript : List Line) × AreLines 1 (lines text.now) transcript × IsVerdict any transcript Checked.Legal }
-    ensures finding { (any : AnySeq) → any_of any_seq ≡ Some any → result ≡ YT_FINDING → (transcript : List Line) × (checked : Checked) × AreLines 1 (lines text.now) transcript × IsVerdict any transcript checked × TellsChecked checked result verdict.new }
-    ensures refused { (any : AnySeq) → any_of any_seq ≡ Some any → (result ≡ YT_OK → ⊥) → (result ≡ YT_FINDING → ⊥) → (fault : CheckFault) × FirstRefused (lines text.now) fault × (result ≡ fault_code fault) × (verdict.new.line ≡ fault_line fault) }
+    ensures unknown { any_of any_seq ≡ None → result ≡ YT_BAD_ARGUMENTS }
+    ensures unchanged { any_of any_seq ≡ None → verdict.new ≡ verdict.old }
+    ensures legal { ForSome (any_of any_seq) (FindsNone text.now result) }
+    ensures finding { ForSome (any_of any_seq) (FindsLine text.now result verdict.new) }
+    ensures refused { ForSome (any_of any_seq) (RefusesText text.now result verdict.new) }
 
     // And the other way, unless memory is refused.
-    ensures checks { (any : AnySeq) (transcript : List Line) (checked : Checked) → any_of any_seq ≡ Some any → AreLines 1 (lines text.now) transcript → IsVerdict any transcript checked → TellsChecked checked result verdict.new ⊎ (result ≡ YT_NO_MEMORY) }
-    ensures refuses { (any : AnySeq) (fault : CheckFault) → any_of any_seq ≡ Some any → FirstRefused (lines text.now) fault → fault ≢ CheckFault.OutOfMemory → TellsRefused fault result verdict.new ⊎ (result ≡ YT_NO_MEMORY) }
+    ensures checks { ForSome (any_of any_seq) (TellsVerdict text.now result verdict.new) }
+    ensures refuses { ForSome (any_of any_seq) (λ any. TellsFault text.now result verdict.new) }
 {
     match any_seq_of(any_seq) {
         None => YT_BAD_ARGUMENTS,
@@ -206,12 +206,10 @@ pub extern "C" fn yt_explain(
     size: &mut usize,
 ) -> u32
     ensures unknown { rule_of rule ≡ None → result ≡ YT_BAD_ARGUMENTS }
-    ensures explains { (earlier : List Line) (l : Line) (later : List Line) (r : Rule) → rule_of rule ≡ Some r → AreLines 1 (lines text.now) (earlier ++ l ∷ later) → l.number ≡ line
-        → PutsIfAny (option_map sentence_of (reason_of r earlier l)) result size.new out.old out.new ⊎ (result ≡ YT_NO_MEMORY) }
-    ensures absent { (transcript : List Line) (r : Rule) → rule_of rule ≡ Some r → AreLines 1 (lines text.now) transcript → list_any (λ l. l.number == line) transcript ≡ false
-        → PutsIfAny None result size.new out.old out.new ⊎ (result ≡ YT_NO_MEMORY) }
-    ensures refused { IsCodeOfLine result → (fault : CheckFault) × IsRefusedIn (lines text.now) fault × (result ≡ fault_code fault) }
-    ensures unchanged { (result ≡ YT_OK → ⊥) → out.new ≡ out.old }
+    ensures explains { Explains text.now line rule result size.new out.old out.new }
+    ensures absent { ExplainsNone text.now line rule result size.new out.old out.new }
+    ensures refused { IsCodeOfLine result → IsRefusedWith text.now result }
+    ensures unchanged { result ≢ YT_OK → out.new ≡ out.old }
 {
     match rule_numbered(rule) {
         None => {

@@ -3,20 +3,21 @@
 //! Calls of the host and bytes of the adapter come in; requests to be written and the adapter's frames go out. What a client
 //! is and does is in `dap_client`; each export has the clauses of its function there. Only the client behind the handle and
 //! what the caller lends for an answer are touched.
-ghost use Rattle.std.specs.Prelude.{◌≡◌, ◌⊎◌, ◌<◌, ◌≤◌, ◌++◌, [], length, drop, IfOk, IfErr, OnOk, OnErr, IfSome, IsSome, IsTrue, IsUtf8, Some, None, true, false, take, is_some, vec_len, vec_capacity, if◌then◌else◌, ◌+◌};
+ghost use Rattle.std.specs.Prelude.{◌≡◌, ◌⊎◌, ◌<◌, ◌≤◌, ◌++◌, [], length, drop, IfOk, IfErr, OnOk, IfSome, IsSome, IsTrue, IsUtf8, None, true, false, take, is_some, vec_len, vec_capacity, if◌then◌else◌, ◌+◌, ◌≢◌};
 ghost use Rattle.dap_call.specs.PlainCall.{is_plain_call};
 ghost use Rattle.dap_call.specs.declared.call.Call.{Call as TheCall};
 ghost use Rattle.dap_frame.specs.Settings.{first_outside};
 ghost use Rattle.dap_client.specs.Session.{fresh_session};
 ghost use Rattle.dap_client.specs.StandsFor.{StandsFor};
 ghost use Rattle.dap_client.specs.TerminalResponse.{is_plain_terminal};
-ghost use Rattle.dap_client.specs.declared.fault.ClientFault.{ClientFault as TheFault};
 ghost use Rattle.dap_c_parts.specs.Behind.{FromTo};
 ghost use Rattle.dap_c_parts.specs.Finds.{FindsNothing};
-ghost use Rattle.dap_c.specs.CallGiven.{IsCallOf, IsCodeOfCall};
-ghost use Rattle.dap_c.specs.ClientCalls.{Sends, Refuses, Answers, RefusesAnswer, TakesPiece, RefusesPiece, IsAsBefore, bytes_so_far, HasNothing, terminal_of, process_of};
+ghost use Rattle.dap_c.specs.CallGiven.{IsCallOf, IsCodeOfCall, AcceptsCall};
+ghost use Rattle.dap_c.specs.ClientCalls.{Sends, Refuses, Answers, RefusesAnswer, TakesPiece, RefusesPiece, IsAsBefore, bytes_so_far, HasNothing, terminal_of, process_of, SendsCall, RefusesCall, AnswersTerminal, RefusesTerminal, TakesBytes, RefusesBytes, IfPlainCall, LeavesBytes, KeepsFrame, IsPlainTerminal, LeavesNothing, LatchesFault, PutsBytes, PutsFrame, HasNoFrame, IsFreshWithin, KeepsLimits, KeepsTables};
 ghost use Rattle.dap_c.specs.ClientFaults.{send_number, answer_number, take_number, IsFaultFound};
-ghost use Rattle.dap_c_parts.specs.Limited.{settings_of};
+ghost use Rattle.dap_c_parts.specs.Limited.{settings_of, AreOutOfRange};
+ghost use Rattle.dap_c.specs.ClientBehind.{IsFull, IsEmpty, IfFull, FromTo, FromEmpty};
+ghost use Rattle.dap_c_parts.specs.Buffer.{StaysIfSmall};
 
 use crate::call::call_given;
 use crate::client_handle::YtClient;
@@ -72,16 +73,16 @@ fn opened(alloc: Global, limits: &YtLimits) -> Result<Box<HeldClient>, u32>
 /// Opens a client, and lets go what the handle held. Where it answers other than `YT_OK`, the handle holds none.
 #[unsafe(no_mangle)]
 pub extern "C" fn yt_client_open(alloc: Global, client: &mut YtClient, limits: &YtLimits) -> u32
-    ensures open { result ≡ YT_OK → IsSome client.new.inner.value }
-    ensures closed { (result ≡ YT_OK → ⊥) → client.new.inner.value ≡ None }
-    ensures session { IfSome client.new.inner.value (λ c. c.client.session ≡ fresh_session (settings_of limits.now)) }
-    ensures fault { IfSome client.new.inner.value (λ c. c.client.fault ≡ None) }
-    ensures stands { IfSome client.new.inner.value (λ c. StandsFor c.client [] []) }
-    ensures nothing { IfSome client.new.inner.value HasNothing }
-    ensures refused { result ≡ YT_BAD_LIMITS → IsSome (first_outside (settings_of limits.now)) }
-    ensures out_of_range { IsSome (first_outside (settings_of limits.now)) → result ≡ YT_BAD_LIMITS }
+    ensures open { result ≡ YT_OK → IsFull client.new }
+    ensures closed { result ≢ YT_OK → IsEmpty client.new }
+    ensures session { IfFull client.new (IsFreshWithin limits.now) }
+    ensures fault { IfFull client.new (λ c. c.client.fault ≡ None) }
+    ensures stands { IfFull client.new (λ c. StandsFor c.client [] []) }
+    ensures nothing { IfFull client.new HasNothing }
+    ensures refused { result ≡ YT_BAD_LIMITS → AreOutOfRange limits.now }
+    ensures out_of_range { AreOutOfRange limits.now → result ≡ YT_BAD_LIMITS }
     ensures in_range { result ≡ YT_OK → first_outside (settings_of limits.now) ≡ None }
-    ensures codes { (result ≡ YT_OK → ⊥) → (result ≡ YT_BAD_LIMITS → ⊥) → result ≡ YT_NO_MEMORY }
+    ensures codes { result ≢ YT_OK → result ≢ YT_BAD_LIMITS → result ≡ YT_NO_MEMORY }
 {
     take_out(alloc, client);
     match opened(alloc, limits) {
@@ -96,7 +97,7 @@ pub extern "C" fn yt_client_open(alloc: Global, client: &mut YtClient, limits: &
 /// Lets go what the handle held.
 #[unsafe(no_mangle)]
 pub extern "C" fn yt_client_free(alloc: Global, client: &mut YtClient)
-    ensures { client.new.inner.value ≡ None }
+    ensures { IsEmpty client.new }
 {
     drop(take_out(alloc, client));
 }
@@ -121,9 +122,9 @@ fn send_code(fault: SendFault) -> u32
 /// Sends a call that can be written, with its code.
 fn send_call(alloc: Global, held: &mut HeldClient, call: &Call, sent: &mut YtSent) -> u32
     requires { IsTrue (is_plain_call call.now) }
-    ensures sends { result ≡ YT_OK → Sends held.old held.new call.now sent.new.seq }
+    ensures sends { result ≡ YT_OK → SendsCall held.old held.new call.now sent.new.seq }
     ensures length { result ≡ YT_OK → sent.new.bytes ≡ length held.new.bytes.items }
-    ensures refuses { (result ≡ YT_OK → ⊥) → Refuses held.old held.new call.now result }
+    ensures refuses { (result ≡ YT_OK → ⊥) → RefusesCall held.old held.new call.now result }
     ensures of_a_call { (result ≡ YT_BAD_COMMAND → ⊥) × (result ≡ YT_BAD_ARGUMENTS → ⊥) }
     ensures unchanged { (result ≡ YT_OK → ⊥) → held.new ≡ held.old }
     ensures untold { (result ≡ YT_OK → ⊥) → sent.new ≡ sent.old }
@@ -149,9 +150,9 @@ fn send(
     arguments: &[u8],
     sent: &mut YtSent,
 ) -> u32
-    ensures sends { result ≡ YT_OK → (call : TheCall) × IsCallOf command.now arguments.now call × Sends held.old held.new call sent.new.seq }
+    ensures sends { result ≡ YT_OK → (call : TheCall) × IsCallOf command.now arguments.now call × SendsCall held.old held.new call sent.new.seq }
     ensures length { result ≡ YT_OK → sent.new.bytes ≡ length held.new.bytes.items }
-    ensures refuses { (result ≡ YT_OK → ⊥) → IsCodeOfCall result ⊎ ((call : TheCall) × IsCallOf command.now arguments.now call × Refuses held.old held.new call result) }
+    ensures refuses { (result ≡ YT_OK → ⊥) → IsCodeOfCall result ⊎ ((call : TheCall) × IsCallOf command.now arguments.now call × RefusesCall held.old held.new call result) }
     ensures wanted { (call : TheCall) → IsUtf8 command.now → IsCallOf command.now arguments.now call → IsTrue (is_plain_call call) → (result ≡ YT_BAD_COMMAND → ⊥) × (result ≡ YT_BAD_ARGUMENTS → ⊥) }
     ensures unchanged { (result ≡ YT_OK → ⊥) → held.new.client ≡ held.old.client }
     ensures nothing { (result ≡ YT_OK → ⊥) → held.new.bytes.items ≡ [] }
@@ -175,16 +176,16 @@ pub extern "C" fn yt_client_send(
     arguments: &[u8],
     sent: &mut YtSent,
 ) -> u32
-    ensures none { client.old.inner.value ≡ None → (result ≡ YT_NONE) × (client.new.inner.value ≡ None) × (sent.new ≡ sent.old) }
-    ensures held { IsSome client.old.inner.value → IsSome client.new.inner.value }
-    ensures sends { FromTo client.old.inner.value client.new.inner.value (λ c d. result ≡ YT_OK → (call : TheCall) × IsCallOf command.now arguments.now call × Sends c d call sent.new.seq) }
-    ensures length { FromTo client.old.inner.value client.new.inner.value (λ c d. result ≡ YT_OK → sent.new.bytes ≡ length d.bytes.items) }
-    ensures refuses { FromTo client.old.inner.value client.new.inner.value (λ c d. (result ≡ YT_OK → ⊥) → IsCodeOfCall result ⊎ ((call : TheCall) × IsCallOf command.now arguments.now call × Refuses c d call result)) }
-    ensures wanted { (call : TheCall) → IsUtf8 command.now → IsCallOf command.now arguments.now call → IsTrue (is_plain_call call) → (result ≡ YT_BAD_COMMAND → ⊥) × (result ≡ YT_BAD_ARGUMENTS → ⊥) }
-    ensures unchanged { FromTo client.old.inner.value client.new.inner.value (λ c d. (result ≡ YT_OK → ⊥) → d.client ≡ c.client) }
-    ensures nothing { FromTo client.old.inner.value client.new.inner.value (λ c d. (result ≡ YT_OK → ⊥) → d.bytes.items ≡ []) }
-    ensures untold { (result ≡ YT_OK → ⊥) → sent.new ≡ sent.old }
-    ensures frame { FromTo client.old.inner.value client.new.inner.value (λ c d. (d.frame ≡ c.frame) × (d.whole ≡ c.whole)) }
+    ensures none { FromEmpty client.old client.new (result ≡ YT_NONE) (sent.new ≡ sent.old) }
+    ensures held { IsFull client.old → IsFull client.new }
+    ensures sends { FromTo client.old client.new (Sends command.now arguments.now result sent.new) }
+    ensures length { result ≡ YT_OK → FromTo client.old client.new (LeavesBytes sent.new.bytes) }
+    ensures refuses { FromTo client.old client.new (Refuses command.now arguments.now result) }
+    ensures wanted { IfPlainCall command.now arguments.now (AcceptsCall result) }
+    ensures unchanged { FromTo client.old client.new (λ c d. result ≢ YT_OK → d.client ≡ c.client) }
+    ensures nothing { FromTo client.old client.new (λ c d. result ≢ YT_OK → d.bytes.items ≡ []) }
+    ensures untold { result ≢ YT_OK → sent.new ≡ sent.old }
+    ensures frame { FromTo client.old client.new KeepsFrame }
 {
     let Some(mut held) = take_out(alloc, client) else {
         return YT_NONE;
@@ -235,11 +236,11 @@ fn answer(
     terminal: Terminal,
     bytes: &mut usize,
 ) -> u32
-    ensures answers { result ≡ YT_OK → Answers held.old held.new request_seq terminal }
+    ensures answers { result ≡ YT_OK → AnswersTerminal held.old held.new request_seq terminal }
     ensures plain { result ≡ YT_OK → IsTrue (is_plain_terminal terminal) }
     ensures wanted { IsTrue (is_plain_terminal terminal) → result ≡ YT_BAD_ARGUMENTS → ⊥ }
     ensures length { bytes.new ≡ length held.new.bytes.items }
-    ensures refuses { (result ≡ YT_OK → ⊥) → (result ≡ YT_BAD_ARGUMENTS) ⊎ RefusesAnswer held.old held.new request_seq result }
+    ensures refuses { (result ≡ YT_OK → ⊥) → (result ≡ YT_BAD_ARGUMENTS) ⊎ RefusesTerminal held.old held.new request_seq result }
     ensures unchanged { (result ≡ YT_OK → ⊥) → held.new.client ≡ held.old.client }
     ensures nothing { (result ≡ YT_OK → ⊥) → held.new.bytes.items ≡ [] }
     ensures frame { (held.new.frame ≡ held.old.frame) × (held.new.whole ≡ held.old.whole) }
@@ -272,16 +273,16 @@ pub extern "C" fn yt_client_answer(
     shell: u32,
     bytes: &mut usize,
 ) -> u32
-    ensures none { client.old.inner.value ≡ None → (result ≡ YT_NONE) × (client.new.inner.value ≡ None) × (bytes.new ≡ bytes.old) }
-    ensures held { IsSome client.old.inner.value → IsSome client.new.inner.value }
-    ensures answers { FromTo client.old.inner.value client.new.inner.value (λ c d. result ≡ YT_OK → Answers c d request_seq (terminal_of runs process shell)) }
-    ensures plain { result ≡ YT_OK → IsTrue (is_plain_terminal (terminal_of runs process shell)) }
-    ensures wanted { IsTrue (is_plain_terminal (terminal_of runs process shell)) → result ≡ YT_BAD_ARGUMENTS → ⊥ }
-    ensures length { FromTo client.old.inner.value client.new.inner.value (λ c d. bytes.new ≡ length d.bytes.items) }
-    ensures refuses { FromTo client.old.inner.value client.new.inner.value (λ c d. (result ≡ YT_OK → ⊥) → (result ≡ YT_BAD_ARGUMENTS) ⊎ RefusesAnswer c d request_seq result) }
-    ensures unchanged { FromTo client.old.inner.value client.new.inner.value (λ c d. (result ≡ YT_OK → ⊥) → d.client ≡ c.client) }
-    ensures nothing { FromTo client.old.inner.value client.new.inner.value (λ c d. (result ≡ YT_OK → ⊥) → d.bytes.items ≡ []) }
-    ensures frame { FromTo client.old.inner.value client.new.inner.value (λ c d. (d.frame ≡ c.frame) × (d.whole ≡ c.whole)) }
+    ensures none { FromEmpty client.old client.new (result ≡ YT_NONE) (bytes.new ≡ bytes.old) }
+    ensures held { IsFull client.old → IsFull client.new }
+    ensures answers { FromTo client.old client.new (Answers request_seq runs process shell result) }
+    ensures plain { result ≡ YT_OK → IsPlainTerminal runs process shell }
+    ensures wanted { IsPlainTerminal runs process shell → result ≢ YT_BAD_ARGUMENTS }
+    ensures length { FromTo client.old client.new (LeavesBytes bytes.new) }
+    ensures refuses { FromTo client.old client.new (RefusesAnswer request_seq result) }
+    ensures unchanged { FromTo client.old client.new (λ c d. result ≢ YT_OK → d.client ≡ c.client) }
+    ensures nothing { FromTo client.old client.new (λ c d. result ≢ YT_OK → d.bytes.items ≡ []) }
+    ensures frame { FromTo client.old client.new KeepsFrame }
 {
     let Some(mut held) = take_out(alloc, client) else {
         return YT_NONE;
@@ -370,12 +371,12 @@ fn keep(held: &mut HeldClient, piece: &[u8], got: Got) -> YtFound
 }
 
 fn take_piece(alloc: Global, held: &mut HeldClient, piece: &[u8], found: &mut YtFound) -> u32
-    ensures takes { result ≡ YT_OK → TakesPiece held.old held.new piece.now found.new }
+    ensures takes { result ≡ YT_OK → TakesBytes held.old held.new piece.now found.new }
     ensures progress { result ≡ YT_OK → 0 < length piece.now → 0 < found.new.used }
     ensures within { result ≡ YT_OK → found.new.used ≤ length piece.now }
     ensures open { result ≡ YT_OK → held.new.client.fault ≡ None }
     ensures limits { held.new.client.session.limits ≡ held.old.client.session.limits }
-    ensures refuses { (result ≡ YT_OK → ⊥) → IsAsBefore held.old held.new result ⊎ RefusesPiece held.old held.new piece.now result found.new }
+    ensures refuses { (result ≡ YT_OK → ⊥) → IsAsBefore held.old held.new result ⊎ RefusesBytes held.old held.new piece.now result found.new }
     ensures tables { (result ≡ YT_OK → ⊥) → held.new.client.session ≡ held.old.client.session }
     ensures length { found.new.bytes ≡ length held.new.bytes.items }
     ensures nothing { (result ≡ YT_OK → ⊥) → (held.new.bytes.items ≡ []) × (held.new.whole ≡ false) × FindsNothing found.new }
@@ -409,20 +410,20 @@ pub extern "C" fn yt_client_take(
     piece: &[u8],
     found: &mut YtFound,
 ) -> u32
-    ensures none { client.old.inner.value ≡ None → (result ≡ YT_NONE) × (client.new.inner.value ≡ None) × (found.new ≡ found.old) }
-    ensures held { IsSome client.old.inner.value → IsSome client.new.inner.value }
-    ensures takes { FromTo client.old.inner.value client.new.inner.value (λ c d. result ≡ YT_OK → TakesPiece c d piece.now found.new) }
+    ensures none { FromEmpty client.old client.new (result ≡ YT_NONE) (found.new ≡ found.old) }
+    ensures held { IsFull client.old → IsFull client.new }
+    ensures takes { FromTo client.old client.new (TakesPiece piece.now result found.new) }
     ensures progress { result ≡ YT_OK → 0 < length piece.now → 0 < found.new.used }
     ensures within { result ≡ YT_OK → found.new.used ≤ length piece.now }
-    ensures open { FromTo client.old.inner.value client.new.inner.value (λ c d. result ≡ YT_OK → d.client.fault ≡ None) }
-    ensures limits { FromTo client.old.inner.value client.new.inner.value (λ c d. d.client.session.limits ≡ c.client.session.limits) }
-    ensures refuses { FromTo client.old.inner.value client.new.inner.value (λ c d. (result ≡ YT_OK → ⊥) → IsAsBefore c d result ⊎ RefusesPiece c d piece.now result found.new) }
-    ensures tables { FromTo client.old.inner.value client.new.inner.value (λ c d. (result ≡ YT_OK → ⊥) → d.client.session ≡ c.client.session) }
+    ensures open { FromTo client.old client.new (λ c d. result ≡ YT_OK → d.client.fault ≡ None) }
+    ensures limits { FromTo client.old client.new KeepsLimits }
+    ensures refuses { FromTo client.old client.new (RefusesPiece piece.now result found.new) }
+    ensures tables { FromTo client.old client.new (λ c d. result ≢ YT_OK → KeepsTables c d) }
 
     // What there is to fetch; where it is refused, nothing.
-    ensures length { FromTo client.old.inner.value client.new.inner.value (λ c d. found.new.bytes ≡ length d.bytes.items) }
-    ensures nothing { FromTo client.old.inner.value client.new.inner.value (λ c d. (result ≡ YT_OK → ⊥) → (d.bytes.items ≡ []) × (d.whole ≡ false) × FindsNothing found.new) }
-    ensures latched { (fault : TheFault) → FromTo client.old.inner.value client.new.inner.value (λ c d. c.client.fault ≡ Some fault → ((result ≡ YT_NO_MEMORY) ⊎ (result ≡ take_number fault)) × (d.client ≡ c.client)) }
+    ensures length { FromTo client.old client.new (LeavesBytes found.new.bytes) }
+    ensures nothing { FromTo client.old client.new (LeavesNothing result found.new) }
+    ensures latched { FromTo client.old client.new (LatchesFault result) }
 {
     let Some(mut held) = take_out(alloc, client) else {
         return YT_NONE;
@@ -435,11 +436,11 @@ pub extern "C" fn yt_client_take(
 /// Puts what is to be written into a buffer.
 #[unsafe(no_mangle)]
 pub extern "C" fn yt_client_bytes(alloc: Global, client: &mut YtClient, out: &mut [u8]) -> u32
-    ensures none { client.old.inner.value ≡ None → (result ≡ YT_NONE) × (out.new ≡ out.old) }
+    ensures none { IsEmpty client.old → (result ≡ YT_NONE) × (out.new ≡ out.old) }
     ensures same { client.new.inner.value ≡ client.old.inner.value }
-    ensures bytes { IfSome client.old.inner.value (λ c. result ≡ YT_OK → out.new ≡ c.bytes.items ++ drop (length c.bytes.items) out.old) }
-    ensures small { IfSome client.old.inner.value (λ c. result ≡ YT_SMALL → (length out.old < length c.bytes.items) × (out.new ≡ out.old)) }
-    ensures codes { IsSome client.old.inner.value → (result ≡ YT_SMALL → ⊥) → result ≡ YT_OK }
+    ensures bytes { IfFull client.old (λ c. result ≡ YT_OK → PutsBytes c out.old out.new) }
+    ensures small { IfFull client.old (λ c. StaysIfSmall c.bytes.items result out.old out.new) }
+    ensures codes { IsFull client.old → result ≢ YT_SMALL → result ≡ YT_OK }
 {
     let Some(held) = take_out(alloc, client) else {
         return YT_NONE;
@@ -466,12 +467,12 @@ fn put_frame(held: &HeldClient, out: &mut [u8]) -> u32
 /// `YT_NOTHING` where it delivered none.
 #[unsafe(no_mangle)]
 pub extern "C" fn yt_client_frame(alloc: Global, client: &mut YtClient, out: &mut [u8]) -> u32
-    ensures none { client.old.inner.value ≡ None → (result ≡ YT_NONE) × (out.new ≡ out.old) }
+    ensures none { IsEmpty client.old → (result ≡ YT_NONE) × (out.new ≡ out.old) }
     ensures same { client.new.inner.value ≡ client.old.inner.value }
-    ensures frame { IfSome client.old.inner.value (λ c. result ≡ YT_OK → (c.whole ≡ true) × (out.new ≡ c.frame.items ++ drop (length c.frame.items) out.old)) }
-    ensures small { IfSome client.old.inner.value (λ c. result ≡ YT_SMALL → (length out.old < length c.frame.items) × (out.new ≡ out.old)) }
-    ensures nothing { IfSome client.old.inner.value (λ c. result ≡ YT_NOTHING → (c.whole ≡ false) × (out.new ≡ out.old)) }
-    ensures codes { IsSome client.old.inner.value → (result ≡ YT_OK → ⊥) → (result ≡ YT_SMALL → ⊥) → result ≡ YT_NOTHING }
+    ensures frame { IfFull client.old (λ c. result ≡ YT_OK → PutsFrame c out.old out.new) }
+    ensures small { IfFull client.old (λ c. StaysIfSmall c.frame.items result out.old out.new) }
+    ensures nothing { IfFull client.old (λ c. result ≡ YT_NOTHING → HasNoFrame c out.old out.new) }
+    ensures codes { IsFull client.old → result ≢ YT_OK → result ≢ YT_SMALL → result ≡ YT_NOTHING }
 {
     let Some(held) = take_out(alloc, client) else {
         return YT_NONE;

@@ -1,10 +1,10 @@
 //! What can be seen of a client: the client behind a handle is read, and what is seen goes out. Nothing is changed.
-ghost use Rattle.std.specs.Prelude.{◌≡◌, List, ℕ, IfSome, IsSome, Some, None};
+ghost use Rattle.std.specs.Prelude.{◌≡◌, List, ℕ, IfSome};
 ghost use Rattle.dap_history.specs.History.{Entry};
-ghost use Rattle.dap_client.specs.Seen.{capabilities_in};
-ghost use Rattle.dap_client.specs.StandsFor.{StandsFor};
-ghost use Rattle.dap_client.specs.declared.fault.ClientFault.{ClientFault as TheFault};
-ghost use Rattle.dap_c.specs.ClientSeen.{IsStateOf, IsStateIn, IsWithin, AreFlagsOf, phase_number};
+ghost use Rattle.dap_client.specs.StandsFor.{StandsFor, OfEachHistory};
+ghost use Rattle.dap_c.specs.ClientSeen.{IsStateOf, IsStateIn, IsWithin, AreFlagsOf, phase_number, AreFlagsIn, flags_seen};
+ghost use Rattle.dap_c.specs.ClientBehind.{IsFull, IsEmpty, IfFull};
+ghost use Rattle.dap_c.specs.ClientCalls.{IfClosed};
 
 use crate::client_handle::YtClient;
 use dap_c_parts::codes::{YT_NONE, YT_OK};
@@ -90,13 +90,13 @@ pub extern "C" fn yt_client_state(
     client: &mut YtClient,
     state: &mut YtClientSeen,
 ) -> u32
-    ensures none { client.old.inner.value ≡ None → (result ≡ YT_NONE) × (state.new ≡ state.old) }
+    ensures none { IsEmpty client.old → (result ≡ YT_NONE) × (state.new ≡ state.old) }
     ensures same { client.new.inner.value ≡ client.old.inner.value }
-    ensures ok { IsSome client.old.inner.value → result ≡ YT_OK }
-    ensures is { IfSome client.old.inner.value (λ c. IsStateOf state.new c.client) }
-    ensures seen { IfSome client.old.inner.value (λ c. (s : List ℕ) (h : List Entry) → StandsFor c.client s h → IsStateIn state.new h) }
-    ensures within { IfSome client.old.inner.value (λ c. IsWithin state.new c.client.session.limits) }
-    ensures closed { (fault : TheFault) → IfSome client.old.inner.value (λ c. c.client.fault ≡ Some fault → state.new.held ≡ 0) }
+    ensures ok { IsFull client.old → result ≡ YT_OK }
+    ensures is { IfFull client.old (λ c. IsStateOf state.new c.client) }
+    ensures seen { IfFull client.old (λ c. OfEachHistory c.client (IsStateIn state.new)) }
+    ensures within { IfFull client.old (λ c. IsWithin state.new c.client.session.limits) }
+    ensures closed { IfFull client.old (λ c. IfClosed c (state.new.held ≡ 0)) }
 {
     let Some(held) = take_out(alloc, client) else {
         return YT_NONE;
@@ -132,11 +132,11 @@ pub extern "C" fn yt_client_capabilities(
     client: &mut YtClient,
     capabilities: &mut YtCapabilities,
 ) -> u32
-    ensures none { client.old.inner.value ≡ None → (result ≡ YT_NONE) × (capabilities.new ≡ capabilities.old) }
+    ensures none { IsEmpty client.old → (result ≡ YT_NONE) × (capabilities.new ≡ capabilities.old) }
     ensures same { client.new.inner.value ≡ client.old.inner.value }
-    ensures ok { IsSome client.old.inner.value → result ≡ YT_OK }
-    ensures value { IfSome client.old.inner.value (λ c. AreFlagsOf capabilities.new c.client.session.seen.capabilities) }
-    ensures seen { IfSome client.old.inner.value (λ c. (s : List ℕ) (h : List Entry) → StandsFor c.client s h → AreFlagsOf capabilities.new (capabilities_in h)) }
+    ensures ok { IsFull client.old → result ≡ YT_OK }
+    ensures value { IfFull client.old (λ c. AreFlagsOf capabilities.new (flags_seen c)) }
+    ensures seen { IfFull client.old (λ c. OfEachHistory c.client (AreFlagsIn capabilities.new)) }
 {
     let Some(held) = take_out(alloc, client) else {
         return YT_NONE;

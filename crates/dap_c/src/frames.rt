@@ -2,7 +2,7 @@
 //!
 //! Pieces of a stream come in, and the bodies in it go out one by one. What a reader is and does is in `dap_frame`; each
 //! export has the clauses of its function there. Only the reader behind the handle and the caller's buffer are touched.
-ghost use Rattle.std.specs.Prelude.{◌≡◌, ◌<◌, ◌≤◌, List, [], ◌++◌, ℕ, length, drop, IfOk, IfErr, OnOk, Option, Some, None, IsSome, IfSome, is_some};
+ghost use Rattle.std.specs.Prelude.{◌≡◌, ◌<◌, ◌≤◌, [], ◌++◌, length, drop, IfOk, IfErr, OnOk, Option, None, IsSome, is_some, ◌≢◌};
 ghost use Rattle.dap_frame.specs.Feeds.{Completes, Gathers};
 ghost use Rattle.dap_frame.specs.Intake.{Intake, IsReady, IsUnderWay, IsGivenUp, StandsFor};
 ghost use Rattle.dap_frame.specs.Intake.{IsClosed};
@@ -11,8 +11,11 @@ ghost use Rattle.dap_frame.specs.declared.Refusal.{Refusal};
 ghost use Rattle.dap_c_parts.specs.Behind.{FromTo};
 ghost use Rattle.dap_frame.specs.contracts.frames.Frames.{the_row};
 ghost use Rattle.dap_slot.specs.Owned.{handle_owns};
-ghost use Rattle.dap_c_parts.specs.Limited.{settings_of};
-ghost use Rattle.dap_c.specs.Refused.{end_number, ClosesWith, IsRefusedAgain, EndsWithCode};
+ghost use Rattle.dap_c_parts.specs.Limited.{settings_of, AreOutOfRange};
+ghost use Rattle.dap_c.specs.Refused.{end_number, ClosesWith, IsRefusedAgain};
+ghost use Rattle.dap_c.specs.FramesBehind.{IsFull, IsEmpty, IfFull, FromTo, FromEmpty};
+ghost use Rattle.dap_c.specs.FramesCalls.{CompletesFrame, GathersPart, ClosesReader, ClosesAtBytes, UsesBytes, TellsBody, StaysReady, StaysGivenUp, LatchesRefusal, StandsAsBefore, EndsAsItStands, IfClosed, PutsBody, HasNoBody};
+ghost use Rattle.dap_c_parts.specs.Buffer.{StaysIfSmall};
 
 use dap_c_parts::causes::cause_of;
 use dap_c_parts::codes::{
@@ -125,15 +128,15 @@ fn opened(alloc: Global, limits: &YtLimits) -> Result<Box<Frames>, u32>
 /// the handle held. Where it answers other than `YT_OK`, the handle holds none.
 #[unsafe(no_mangle)]
 pub extern "C" fn yt_frames_open(alloc: Global, frames: &mut YtFrames, limits: &YtLimits) -> u32
-    ensures open { result ≡ YT_OK → IsSome frames.new.inner.value }
-    ensures closed { (result ≡ YT_OK → ⊥) → frames.new.inner.value ≡ None }
-    ensures bounds { IfSome frames.new.inner.value (λ f. f.bounds ≡ bounds_of (settings_of limits.now)) }
-    ensures under_way { IfSome frames.new.inner.value IsUnderWay }
-    ensures fresh { IfSome frames.new.inner.value (λ f. StandsFor f [] [] []) }
-    ensures refused { result ≡ YT_BAD_LIMITS → IsSome (first_outside (settings_of limits.now)) }
-    ensures out_of_range { IsSome (first_outside (settings_of limits.now)) → result ≡ YT_BAD_LIMITS }
+    ensures open { result ≡ YT_OK → IsFull frames.new }
+    ensures closed { result ≢ YT_OK → IsEmpty frames.new }
+    ensures bounds { IfFull frames.new (λ f. f.bounds ≡ bounds_of (settings_of limits.now)) }
+    ensures under_way { IfFull frames.new IsUnderWay }
+    ensures fresh { IfFull frames.new (λ f. StandsFor f [] [] []) }
+    ensures refused { result ≡ YT_BAD_LIMITS → AreOutOfRange limits.now }
+    ensures out_of_range { AreOutOfRange limits.now → result ≡ YT_BAD_LIMITS }
     ensures in_range { result ≡ YT_OK → first_outside (settings_of limits.now) ≡ None }
-    ensures codes { (result ≡ YT_OK → ⊥) → (result ≡ YT_BAD_LIMITS → ⊥) → result ≡ YT_NO_MEMORY }
+    ensures codes { result ≢ YT_OK → result ≢ YT_BAD_LIMITS → result ≡ YT_NO_MEMORY }
 {
     take_out(alloc, frames);
     match opened(alloc, limits) {
@@ -148,7 +151,7 @@ pub extern "C" fn yt_frames_open(alloc: Global, frames: &mut YtFrames, limits: &
 /// Lets go what the handle held.
 #[unsafe(no_mangle)]
 pub extern "C" fn yt_frames_free(alloc: Global, frames: &mut YtFrames)
-    ensures { frames.new.inner.value ≡ None }
+    ensures { IsEmpty frames.new }
 {
     drop(take_out(alloc, frames));
 }
@@ -200,21 +203,21 @@ pub extern "C" fn yt_frames_feed(
     piece: &[u8],
     fed: &mut YtFed,
 ) -> u32
-    ensures none { frames.old.inner.value ≡ None → (result ≡ YT_NONE) × (frames.new.inner.value ≡ None) × (fed.new ≡ fed.old) }
-    ensures held { IsSome frames.old.inner.value → IsSome frames.new.inner.value }
-    ensures bounds { FromTo frames.old.inner.value frames.new.inner.value (λ f g. g.bounds ≡ f.bounds) }
-    ensures codes { (result ≡ YT_NONE → ⊥) → (result ≡ YT_OK → ⊥) → (result ≡ YT_READY → ⊥) → result ≡ YT_FRAME }
-    ensures completes { FromTo frames.old.inner.value frames.new.inner.value (λ f g. result ≡ YT_READY → IsUnderWay f → Completes f g piece.now fed.new.used) }
-    ensures gathers { FromTo frames.old.inner.value frames.new.inner.value (λ f g. result ≡ YT_OK → IsUnderWay f → Gathers f g piece.now fed.new.used) }
-    ensures closes { FromTo frames.old.inner.value frames.new.inner.value (λ f g. result ≡ YT_FRAME → IsUnderWay f → ClosesWith f g piece.now fed.new.cause fed.new.offset) }
-    ensures within { FromTo frames.old.inner.value frames.new.inner.value (λ f g. fed.new.used ≤ length piece.now) }
-    ensures some { FromTo frames.old.inner.value frames.new.inner.value (λ f g. result ≡ YT_FRAME → IsUnderWay f → 0 < length piece.now) }
-    ensures progress { FromTo frames.old.inner.value frames.new.inner.value (λ f g. (result ≡ YT_FRAME → ⊥) → IsUnderWay f → 0 < length piece.now → 0 < fed.new.used) }
-    ensures body { FromTo frames.old.inner.value frames.new.inner.value (λ f g. result ≡ YT_READY → fed.new.body ≡ length g.held) }
-    ensures no_body { FromTo frames.old.inner.value frames.new.inner.value (λ f g. (result ≡ YT_READY → ⊥) → fed.new.body ≡ 0) }
-    ensures waits { FromTo frames.old.inner.value frames.new.inner.value (λ f g. IsReady f → (g ≡ f) × (result ≡ YT_READY) × (fed.new.used ≡ 0)) }
-    ensures given_up { FromTo frames.old.inner.value frames.new.inner.value (λ f g. IsGivenUp f → (g ≡ f) × (result ≡ YT_OK) × (fed.new.used ≡ 0)) }
-    ensures latched { (cause : Refusal) → FromTo frames.old.inner.value frames.new.inner.value (λ f g. IsClosed f cause → IsRefusedAgain f g cause result fed.new.cause fed.new.offset) }
+    ensures none { FromEmpty frames.old frames.new (result ≡ YT_NONE) (fed.new ≡ fed.old) }
+    ensures held { IsFull frames.old → IsFull frames.new }
+    ensures bounds { FromTo frames.old frames.new (λ f g. g.bounds ≡ f.bounds) }
+    ensures codes { result ≢ YT_NONE → result ≢ YT_OK → result ≢ YT_READY → result ≡ YT_FRAME }
+    ensures completes { FromTo frames.old frames.new (CompletesFrame piece.now result fed.new) }
+    ensures gathers { FromTo frames.old frames.new (GathersPart piece.now result fed.new) }
+    ensures closes { FromTo frames.old frames.new (ClosesReader piece.now result fed.new) }
+    ensures within { FromTo frames.old frames.new (λ f g. fed.new.used ≤ length piece.now) }
+    ensures some { FromTo frames.old frames.new (ClosesAtBytes piece.now result) }
+    ensures progress { FromTo frames.old frames.new (UsesBytes piece.now result fed.new) }
+    ensures body { FromTo frames.old frames.new (TellsBody result fed.new) }
+    ensures no_body { FromTo frames.old frames.new (λ f g. result ≢ YT_READY → fed.new.body ≡ 0) }
+    ensures waits { FromTo frames.old frames.new (StaysReady result fed.new) }
+    ensures given_up { FromTo frames.old frames.new (StaysGivenUp result fed.new) }
+    ensures latched { FromTo frames.old frames.new (LatchesRefusal result fed.new) }
 {
     let Some(mut held) = take_out(alloc, frames) else {
         return YT_NONE;
@@ -242,12 +245,12 @@ fn put_body(held: &mut Frames, out: &mut [u8]) -> u32
 /// Puts the ready body into a buffer: `YT_NOTHING` where none is ready.
 #[unsafe(no_mangle)]
 pub extern "C" fn yt_frames_body(alloc: Global, frames: &mut YtFrames, out: &mut [u8]) -> u32
-    ensures none { frames.old.inner.value ≡ None → (result ≡ YT_NONE) × (out.new ≡ out.old) }
+    ensures none { IsEmpty frames.old → (result ≡ YT_NONE) × (out.new ≡ out.old) }
     ensures same { frames.new.inner.value ≡ frames.old.inner.value }
-    ensures body { IfSome frames.old.inner.value (λ f. result ≡ YT_OK → IsReady f × (out.new ≡ f.held ++ drop (length f.held) out.old)) }
-    ensures small { IfSome frames.old.inner.value (λ f. result ≡ YT_SMALL → (length out.old < length f.held) × (out.new ≡ out.old)) }
-    ensures nothing { IfSome frames.old.inner.value (λ f. result ≡ YT_NOTHING → (IsReady f → ⊥) × (out.new ≡ out.old)) }
-    ensures codes { IsSome frames.old.inner.value → (result ≡ YT_OK → ⊥) → (result ≡ YT_SMALL → ⊥) → result ≡ YT_NOTHING }
+    ensures body { IfFull frames.old (λ f. result ≡ YT_OK → PutsBody f out.old out.new) }
+    ensures small { IfFull frames.old (λ f. StaysIfSmall f.held result out.old out.new) }
+    ensures nothing { IfFull frames.old (λ f. result ≡ YT_NOTHING → HasNoBody f out.old out.new) }
+    ensures codes { IsFull frames.old → result ≢ YT_OK → result ≢ YT_SMALL → result ≡ YT_NOTHING }
 {
     let Some(mut held) = take_out(alloc, frames) else {
         return YT_NONE;
@@ -260,12 +263,12 @@ pub extern "C" fn yt_frames_body(alloc: Global, frames: &mut YtFrames, out: &mut
 /// Gives the ready body up, or does nothing.
 #[unsafe(no_mangle)]
 pub extern "C" fn yt_frames_release(alloc: Global, frames: &mut YtFrames) -> u32
-    ensures none { frames.old.inner.value ≡ None → (result ≡ YT_NONE) × (frames.new.inner.value ≡ None) }
-    ensures held { IsSome frames.old.inner.value → (result ≡ YT_OK) × IsSome frames.new.inner.value }
-    ensures bounds { FromTo frames.old.inner.value frames.new.inner.value (λ f g. g.bounds ≡ f.bounds) }
-    ensures under_way { FromTo frames.old.inner.value frames.new.inner.value (λ f g. IsReady f → IsUnderWay g) }
-    ensures stands { FromTo frames.old.inner.value frames.new.inner.value (λ f g. (s : List ℕ) (xs : List (List ℕ)) (rest : List ℕ) → StandsFor f s xs rest → StandsFor g s xs rest) }
-    ensures other { FromTo frames.old.inner.value frames.new.inner.value (λ f g. (IsReady f → ⊥) → g ≡ f) }
+    ensures none { IsEmpty frames.old → (result ≡ YT_NONE) × IsEmpty frames.new }
+    ensures held { IsFull frames.old → (result ≡ YT_OK) × IsFull frames.new }
+    ensures bounds { FromTo frames.old frames.new (λ f g. g.bounds ≡ f.bounds) }
+    ensures under_way { FromTo frames.old frames.new (λ f g. IsReady f → IsUnderWay g) }
+    ensures stands { FromTo frames.old frames.new StandsAsBefore }
+    ensures other { FromTo frames.old frames.new (λ f g. (IsReady f → ⊥) → g ≡ f) }
 {
     let Some(mut held) = take_out(alloc, frames) else {
         return YT_NONE;
@@ -279,12 +282,12 @@ pub extern "C" fn yt_frames_release(alloc: Global, frames: &mut YtFrames) -> u32
 /// where one was refused.
 #[unsafe(no_mangle)]
 pub extern "C" fn yt_frames_finish(alloc: Global, frames: &mut YtFrames) -> u32
-    ensures none { frames.old.inner.value ≡ None → result ≡ YT_NONE }
+    ensures none { IsEmpty frames.old → result ≡ YT_NONE }
     ensures same { frames.new.inner.value ≡ frames.old.inner.value }
-    ensures ends { IfSome frames.old.inner.value (λ f. (s : List ℕ) (xs : List (List ℕ)) (rest : List ℕ) → StandsFor f s xs rest → EndsWithCode f rest result) }
-    ensures refused { IfSome frames.old.inner.value (λ f. (cause : Refusal) → IsClosed f cause → result ≡ YT_FRAME) }
-    ensures given_up { IfSome frames.old.inner.value (λ f. IsGivenUp f → result ≡ YT_FRAME) }
-    ensures under_way { IfSome frames.old.inner.value (λ f. IsUnderWay f → result ≡ YT_FRAME → ⊥) }
+    ensures ends { IfFull frames.old (λ f. EndsAsItStands f result) }
+    ensures refused { IfFull frames.old (λ f. IfClosed f (result ≡ YT_FRAME)) }
+    ensures given_up { IfFull frames.old (λ f. IsGivenUp f → result ≡ YT_FRAME) }
+    ensures under_way { IfFull frames.old (λ f. IsUnderWay f → result ≢ YT_FRAME) }
 {
     let Some(held) = take_out(alloc, frames) else {
         return YT_NONE;

@@ -1,10 +1,9 @@
 //! What a message says of itself: a body comes in; its number, its kind and its name go out. Only what the caller lends for
 //! them is touched.
-ghost use Rattle.std.specs.Prelude.{◌≡◌, ◌<◌, ◌≤◌, ◌++◌, ℕ, List, length, drop};
+ghost use Rattle.std.specs.Prelude.{◌≡◌, ◌<◌, length, ◌≢◌};
 ghost use Rattle.dap_envelope.specs.Heading.{IsHeadingOf};
-ghost use Rattle.dap_envelope.specs.Meaning.{Msg};
 ghost use Rattle.dap_envelope.specs.declared.message.Message.{Message};
-ghost use Rattle.dap_c.specs.HeadingFound.{IsFound, name_of};
+ghost use Rattle.dap_c.specs.HeadingFound.{IsFound, name_of, HasHeading};
 
 use dap_c_parts::codes::{YT_NOTHING, YT_OK, YT_SMALL};
 use dap_c_parts::copying::put;
@@ -81,10 +80,10 @@ pub extern "C" fn yt_heading(
     heading: &mut YtHeadingFound,
     name: &mut [u8],
 ) -> u32
-    ensures found { (result ≡ YT_NOTHING → ⊥) → (m : Message) × Msg body.now m × IsFound heading.new m × (result ≡ YT_OK → name.new ≡ name_of m.kind ++ drop (length (name_of m.kind)) name.old) }
-    ensures unchanged { (result ≡ YT_OK → ⊥) → name.new ≡ name.old }
+    ensures found { result ≢ YT_NOTHING → HasHeading body.now heading.new result name.old name.new }
+    ensures unchanged { result ≢ YT_OK → name.new ≡ name.old }
     ensures small { result ≡ YT_SMALL → length name.old < heading.new.name }
-    ensures codes { (result ≡ YT_OK → ⊥) → (result ≡ YT_SMALL → ⊥) → result ≡ YT_NOTHING }
+    ensures codes { result ≢ YT_OK → result ≢ YT_SMALL → result ≡ YT_NOTHING }
 {
     let mut scratch = Scratch::new(alloc);
     match read_heading(&mut scratch, body) {

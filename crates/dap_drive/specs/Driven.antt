@@ -1,10 +1,12 @@
 -- What comes of a script: the transcript, or why it is not run to its end. The formats are this profile's own.
-use Rattle.std.specs.Prelude.{◌≡◌, ◌⊎◌, ◌+◌, ℕ, List, ◌∷◌, ◌++◌, length, false, Option, Some, None, Ok, Err}
+use Rattle.std.specs.Prelude.{◌≡◌, ◌⊎◌, ◌+◌, ℕ, List, ◌∷◌, ◌++◌, length, false, Option, Some, None, Ok, Err, IfOk, IfErr, IsSomeAnd, Vec}
+use Rattle.std.specs.Str.Lines.{lines}
 use Rattle.dap_frame.specs.Settings.{Settings}
 use Rattle.dap_call.specs.declared.call.Call.{Call as TheCall}
 use Rattle.dap_json.specs.Read.{json_of}
 use Rattle.dap_replay.specs.Played.{shown_of, FollowsPlayed, fresh_played}
 use Rattle.dap_recording.specs.Reading.{verdict_of}
+use Rattle.dap_debuggee.specs.Laws.{StopsLast}
 use Rattle.dap_debuggee.specs.Shown.{Shown}
 use Rattle.dap_recording.specs.declared.reading.RecordingFault.{RecordingFault}
 use Rattle.dap_recording.specs.declared.recording.Recording.{Recording as TheRecording}
@@ -19,6 +21,8 @@ use Rattle.dap_world.specs.World.{World, Schedule}
 use Rattle.dap_drive.specs.Orders.{Ran, Reaches, LacksNumbers, HasTooManyReferences}
 use Rattle.dap_drive.specs.Script.{is_skipped, order_of}
 use Rattle.dap_drive.specs.Transcript.{text_of, IsReadAs}
+use Rattle.dap_drive.specs.declared.checked.CheckedTranscript.{CheckedTranscript}
+use Rattle.dap_drive.specs.declared.driving.Driven.{Driven}
 use Rattle.dap_drive.specs.declared.fault.DriveFault.{DriveFault}
 use Rattle.dap_drive.specs.declared.fault.DriveFault.TheVariants.{Recording, Script, Call, Send, Adapter, Client, OutOfMemory}
 use Rattle.dap_drive.specs.declared.script.LineFault.TheVariants as unread
@@ -103,6 +107,22 @@ Stops shown follows limits debuggee texts fault (Some left) = StopsWith shown fo
 Stops shown follows limits debuggee texts OutOfMemory None = Unit {0}
 Stops shown follows limits debuggee texts fault None = ⊥
 
+-- ---- what is driven by a script
+
+-- where there is a transcript, it is that of the script, and the debuggee is given back
+abbrev pub DrivesTo : {D : Type 0} → (D → Shown) → Goes D → Settings → D → List ℕ → Driven D → Type 0
+DrivesTo shown follows limits debuggee script driven =
+    IfOk driven.transcript (λ transcript. IsSomeAnd driven.debuggee (Drives shown follows limits debuggee (lines script) transcript.items))
+
+-- where there is none, the script stops
+abbrev pub StopsTo : {D : Type 0} → (D → Shown) → Goes D → Settings → D → List ℕ → Driven D → Type 0
+StopsTo shown follows limits debuggee script driven = IfErr driven.transcript (λ fault. Stops shown follows limits debuggee (lines script) fault driven.debuggee)
+
+-- where a stop of the debuggee lasts, and the script stops at the client, the client has no own number left for an answer
+abbrev pub LacksOnlyNumbers : {D : Type 0} → (D → Shown) → Goes D → Settings → D → List ℕ → Driven D → Type 0
+LacksOnlyNumbers shown follows limits debuggee script driven =
+    StopsLast shown follows → IfErr driven.transcript (λ fault. fault ≡ Client → StopsAt shown follows limits debuggee (lines script) LacksNumberOnLine)
+
 -- ---- where the debuggee is not given back
 
 abbrev pub DrivesSomehow : {D : Type 0} → (D → Shown) → Goes D → Settings → D → List (List ℕ) → List ℕ → Type 0
@@ -111,10 +131,24 @@ DrivesSomehow {D} shown follows limits debuggee texts transcript = (left : D) ×
 abbrev pub StopsSomehow : {D : Type 0} → (D → Shown) → Goes D → Settings → D → List (List ℕ) → DriveFault → Type 0
 StopsSomehow {D} shown follows limits debuggee texts fault = (left : Option D) × Stops shown follows limits debuggee texts fault left
 
+-- the same, of a script and a transcript that is checked
+abbrev pub ChecksSomehow : {D : Type 0} → (D → Shown) → Goes D → Settings → D → List ℕ → CheckedTranscript → Type 0
+ChecksSomehow shown follows limits debuggee script found = DrivesSomehow shown follows limits debuggee (lines script) found.transcript.items
+
+abbrev pub StopsScript : {D : Type 0} → (D → Shown) → Goes D → Settings → D → List ℕ → DriveFault → Type 0
+StopsScript shown follows limits debuggee script fault = StopsSomehow shown follows limits debuggee (lines script) fault
+
 -- ---- over a recording
 
 abbrev pub DrivesRecording : Settings → List ℕ → List (List ℕ) → List ℕ → Type 0
 DrivesRecording limits bytes texts transcript = (r : TheRecording) × (verdict_of (json_of bytes) ≡ Ok r) × DrivesSomehow shown_of FollowsPlayed limits (fresh_played r) texts transcript
+
+abbrev pub DrivesOver : {A : Type 0} → Settings → List ℕ → List (List ℕ) → Vec ℕ A → Type 0
+DrivesOver limits bytes texts transcript = DrivesRecording limits bytes texts transcript.items
+
+-- the same, of a transcript that is checked
+abbrev pub ChecksOver : Settings → List ℕ → List (List ℕ) → CheckedTranscript → Type 0
+ChecksOver limits bytes texts found = DrivesRecording limits bytes texts found.transcript.items
 
 -- The bytes are no recording, or they are one over which the script stops. A recording has one reply to each act, and goes on in
 -- one way (`FollowsPlayed`), so what is said to have come is what comes. A stop of it lasts, so that the client never has too

@@ -1,5 +1,5 @@
 -- A transcript: a line for each message that was written. The format is this profile's own.
-use Rattle.std.specs.Prelude.{◌≡◌, ℕ, List, [], ◌∷◌, ◌++◌, false, codes}
+use Rattle.std.specs.Prelude.{◌≡◌, ℕ, List, [], ◌∷◌, ◌++◌, false, codes, Vec}
 use Rattle.std.specs.List.{flat_map}
 use Rattle.std.specs.Str.Lines.{lines}
 use Rattle.dap_envelope.specs.Canon.{canon}
@@ -38,6 +38,9 @@ pub record IsLegalText (transcript : List ℕ) : Type 0 where
   pub all : List Line
   pub are : AreLines 1 (lines transcript) all
   pub legal : IsVerdict OfNone all Legal
+
+abbrev pub IsLegalTranscript : {A : Type 0} → Vec ℕ A → Type 0
+IsLegalTranscript transcript = IsLegalText transcript.items
 
 -- what `check` says of it, where all numbers are tested
 pub record IsVerdictOn (transcript : List ℕ) (checked : Checked) : Type 0 where

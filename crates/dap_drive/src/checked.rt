@@ -1,12 +1,12 @@
 //! A script, and what the checker says of its transcript.
 ghost use Rattle.std.specs.Prelude.{◌≡◌, IfOk, IfErr};
 ghost use Rattle.std.specs.Str.Lines.{lines};
-ghost use Rattle.dap_check.specs.declared.rule.Checked.{Checked};
 ghost use Rattle.dap_debuggee.specs.Laws.{StopsLast};
 ghost use Rattle.dap_debuggee.specs.declared.answers.State.{State};
-ghost use Rattle.dap_drive.specs.Driven.{DrivesRecording, StopsOver, DrivesSomehow, StopsSomehow};
+ghost use Rattle.dap_drive.specs.Driven.{StopsOver, ChecksOver, ChecksSomehow, StopsScript};
 ghost use Rattle.dap_drive.specs.Transcript.{IsLegalText, IsVerdictOn};
 ghost use Rattle.dap_drive.specs.declared.fault.DriveFault.{DriveFault};
+ghost use Rattle.dap_check.specs.declared.rule.Checked.TheVariants.{Legal};
 
 use crate::driving::{Driven, drive, drive_debuggee};
 use crate::fault::DriveFault;
@@ -27,7 +27,7 @@ pub struct CheckedTranscript {
 fn with_verdict(alloc: Global, transcript: Vec<u8>) -> Result<CheckedTranscript, DriveFault>
     ensures transcript { IfOk result (λ found. found.transcript ≡ transcript) }
     ensures checked { IfOk result (λ found. IsVerdictOn found.transcript.items found.checked) }
-    ensures legal { IsLegalText transcript.items → IfOk result (λ found. found.checked ≡ Checked.Legal) }
+    ensures legal { IsLegalText transcript.items → IfOk result (λ found. found.checked ≡ Legal) }
     ensures memory { IfErr result (λ fault. fault ≡ DriveFault.OutOfMemory) }
 {
     match check(alloc, &transcript, false) {
@@ -50,9 +50,9 @@ pub fn drive_and_check(
     script: &[u8],
     limits: Limits,
 ) -> Result<CheckedTranscript, DriveFault>
-    ensures drives { IfOk result (λ found. DrivesRecording limits recording.now (lines script.now) found.transcript.items) }
+    ensures drives { IfOk result (ChecksOver limits recording.now (lines script.now)) }
     ensures checked { IfOk result (λ found. IsVerdictOn found.transcript.items found.checked) }
-    ensures legal { IfOk result (λ found. found.checked ≡ Checked.Legal) }
+    ensures legal { IfOk result (λ found. found.checked ≡ Legal) }
     ensures stops { IfErr result (StopsOver limits recording.now (lines script.now)) }
 {
     match drive(alloc, recording, script, limits) {
@@ -73,10 +73,10 @@ pub fn drive_debuggee_and_check<D: Debuggee + Drop>(
     limits: Limits,
 ) -> Result<CheckedTranscript, DriveFault>
     requires { (D.shown debuggee).state ≡ State.NotStarted }
-    ensures drives { IfOk result (λ found. DrivesSomehow D.shown D.follows limits debuggee (lines script.now) found.transcript.items) }
+    ensures drives { IfOk result (ChecksSomehow D.shown D.follows limits debuggee script.now) }
     ensures checked { IfOk result (λ found. IsVerdictOn found.transcript.items found.checked) }
-    ensures legal { StopsLast D.shown D.follows → IfOk result (λ found. found.checked ≡ Checked.Legal) }
-    ensures stops { IfErr result (StopsSomehow D.shown D.follows limits debuggee (lines script.now)) }
+    ensures legal { StopsLast D.shown D.follows → IfOk result (λ found. found.checked ≡ Legal) }
+    ensures stops { IfErr result (StopsScript D.shown D.follows limits debuggee script.now) }
 {
     let Driven { transcript, .. } = drive_debuggee(alloc, debuggee, script, limits);
     match transcript {

@@ -1,14 +1,14 @@
 //! A script, line by line, and the transcript of what both ends wrote.
-ghost use Rattle.std.specs.Prelude.{◌≡◌, ◌∷◌, ◌++◌, ℕ, List, [], false, IfOk, IfErr, OnOk, IsSomeAnd};
+ghost use Rattle.std.specs.Prelude.{◌≡◌, ◌∷◌, ◌++◌, ℕ, List, [], false, IfOk, IfErr, OnOk};
 ghost use Rattle.std.specs.Str.Lines.{lines};
 ghost use Rattle.dap_debuggee.specs.Laws.{StopsLast};
 ghost use Rattle.dap_debuggee.specs.declared.answers.State.{State};
 ghost use Rattle.dap_frame.specs.Intake.{IsUnderWay};
 ghost use Rattle.dap_frame.specs.Settings.{Settings};
-ghost use Rattle.dap_drive.specs.Driven.{Drives, Stops, StopsAt, LacksNumberOnLine, SaysOf, DrivesRecording, StopsOver};
+ghost use Rattle.dap_drive.specs.Driven.{SaysOf, StopsOver, DrivesTo, StopsTo, LacksOnlyNumbers, DrivesOver};
 ghost use Rattle.dap_drive.specs.Script.{is_skipped};
 ghost use Rattle.dap_drive.specs.PrivateHeld.{driven_by, both_of, IsQuiet, HasDone, DoesLine, HasRun};
-ghost use Rattle.dap_drive.specs.Transcript.{IsLegalText};
+ghost use Rattle.dap_drive.specs.Transcript.{IsLegalTranscript};
 ghost use Rattle.dap_world.specs.World.{World};
 
 use crate::ends::Drive;
@@ -127,12 +127,12 @@ pub fn drive_debuggee<D: Debuggee + Drop>(
     limits: Limits,
 ) -> Driven<D>
     requires { (D.shown debuggee).state ≡ State.NotStarted }
-    ensures drives { IfOk result.transcript (λ transcript. IsSomeAnd result.debuggee (Drives D.shown D.follows limits debuggee (lines script.now) transcript.items)) }
-    ensures stops { IfErr result.transcript (λ fault. Stops D.shown D.follows limits debuggee (lines script.now) fault result.debuggee) }
+    ensures drives { DrivesTo D.shown D.follows limits debuggee script.now result }
+    ensures stops { StopsTo D.shown D.follows limits debuggee script.now result }
 
     // Of a debuggee whose stops last the transcript is legal, and the client never has too many references.
-    ensures legal { StopsLast D.shown D.follows → IfOk result.transcript (λ transcript. IsLegalText transcript.items) }
-    ensures numbers { StopsLast D.shown D.follows → IfErr result.transcript (λ fault. fault ≡ DriveFault.Client → StopsAt D.shown D.follows limits debuggee (lines script.now) LacksNumberOnLine) }
+    ensures legal { StopsLast D.shown D.follows → IfOk result.transcript IsLegalTranscript }
+    ensures numbers { LacksOnlyNumbers D.shown D.follows limits debuggee script.now result }
 {
     // Laws for the proof: both ends agree, and a message is one line of the transcript.
     each_schedule_agrees::<D>();
@@ -182,8 +182,8 @@ pub fn drive(
     script: &[u8],
     limits: Limits,
 ) -> Result<Vec<u8>, DriveFault>
-    ensures drives { IfOk result (λ transcript. DrivesRecording limits recording.now (lines script.now) transcript.items) }
-    ensures legal { IfOk result (λ transcript. IsLegalText transcript.items) }
+    ensures drives { IfOk result (DrivesOver limits recording.now (lines script.now)) }
+    ensures legal { IfOk result IsLegalTranscript }
     ensures stops { IfErr result (StopsOver limits recording.now (lines script.now)) }
 {
     // A law for the proof: a stop of a recording lasts.

@@ -11,9 +11,6 @@ use Rattle.dap_ends.proofs.PairSteps.{echo, echo_up, echo_takes, echo_turn, echo
 use Rattle.dap_ends.proofs.OwnRequests.{Owns, next-answers, next-new, owns-step}
 use Rattle.dap_ends.proofs.PairSchedules.{owns-start}
 
-true-false : true ≡ false → ⊥
-true-false e = cc
-
 -- what holds while the debuggee does not move by itself in a stop
 pub record KeepsReferences (n r : ℕ) (w : Pair) : Type 0 where
   pub refs : RefsAgree n r (client_world w)

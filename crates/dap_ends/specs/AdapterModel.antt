@@ -81,6 +81,10 @@ parked_of ks = filter (λ k. k.parked) ks
 abbrev pub unparked_of : List Kept → List Kept
 unparked_of ks = filter (λ k. not k.parked) ks
 
+-- how many are parked
+abbrev pub parked_count : List Kept → ℕ
+parked_count ks = length (parked_of ks)
+
 -- those that a cancel of that number answers, and the others
 abbrev pub is_named : ℕ → Kept → Bool
 is_named q k = not k.parked && (k.ask.seq == q)

@@ -1,9 +1,36 @@
 -- What the laws say of two ends that both send requests.
-use Rattle.std.specs.Prelude.{◌++◌, ◌≡◌, ℕ, ◌+◌, ◌≤◌, ◌<◌, not, List, [], ◌∷◌, Bool, true, if◌then◌else◌}
+use Rattle.std.specs.Prelude.{◌++◌, ◌≡◌, ℕ, ◌+◌, ◌≤◌, ◌<◌, ◌⊎◌, ◌&&◌, not, List, [], ◌∷◌, length, Bool, true, if◌then◌else◌, Some, None}
 use Rattle.dap_ends.specs.Messages.{Ask, Message, Request, Response, Event, count, one_if, requests_in, answered_in, answer_each}
-use Rattle.dap_ends.specs.AdapterModel.{asks, parked_of, unparked_of, phase_after_start, AdapterPhase, AdapterFresh, AdapterReady, AdapterConfigured, AdapterParked, AdapterAsked, AdapterRunning, AdapterStopped, AdapterExited, AdapterEnded}
-use Rattle.dap_ends.specs.References.{Ref}
-use Rattle.dap_ends.specs.Pair.{NumberedNote, WrittenNote, Pair, PairStep, PairTurn, is_terminal_ask, numbered_notes}
+use Rattle.dap_ends.specs.AdapterModel.{asks, oldest, parked_of, unparked_of, parked_count, phase_after_start, adapter_model_turns, AdapterPhase, AdapterFresh, AdapterReady, AdapterConfigured, AdapterParked, AdapterAsked, AdapterRunning, AdapterStopped, AdapterExited, AdapterEnded}
+use Rattle.dap_ends.specs.ClientModel.{ClientModel, ClientFault}
+use Rattle.dap_ends.specs.World.{World}
+use Rattle.dap_ends.specs.References.{Ref, RefWorld, plain_world, inspection_succeeds}
+use Rattle.dap_ends.specs.Pair.{NumberedNote, WrittenNote, Pair, PairStep, PairDeliverUp, PairTurn, PairIsStill, pair_start, pair_happens, pair_run, client_world, is_terminal_ask, sets_variable, numbered_notes}
+
+-- after each schedule, with whatever limits: this holds of the two ends
+abbrev pub InEachRun : (Pair → Type 0) → Type 0
+InEachRun P = (n r : ℕ) (steps : List PairStep) → P (pair_run n r steps pair_start)
+
+-- the same, of the limit of requests and the two ends
+abbrev pub InEachRunWithin : (ℕ → Pair → Type 0) → Type 0
+InEachRunWithin P = (n r : ℕ) (steps : List PairStep) → P n (pair_run n r steps pair_start)
+
+-- after each schedule that meets the premise of the laws on references: this holds of the limit of references, and of the
+-- world of the client's requests
+abbrev pub InEachStillRun : (ℕ → RefWorld → Type 0) → Type 0
+InEachStillRun P = (n r : ℕ) (steps : List PairStep) → PairIsStill n r steps pair_start → P r (client_world (pair_run n r steps pair_start))
+
+-- the world of the client's requests alone, without references
+abbrev pub plain_pair : Pair → World
+plain_pair w = plain_world (client_world w)
+
+-- no fault has closed the client
+abbrev pub ClientIsOpen : Pair → Type 0
+ClientIsOpen w = w.client.fault ≡ None
+
+-- none but this one closes it
+abbrev pub FailsOnlyBy : ClientFault → ClientModel → Type 0
+FailsOnlyBy f c = (c.fault ≡ None) ⊎ (c.fault ≡ Some f)
 
 -- the messages of a way
 abbrev pub messages_in : List NumberedNote → List Message
@@ -63,6 +90,38 @@ pub record TurnChoice : Type 0 where
 abbrev pub turns_of : List TurnChoice → List PairStep
 turns_of [] = []
 turns_of (c ∷ cs) = PairTurn c.ok c.more c.named ∷ turns_of cs
+
+-- as many turns as unparked requests are kept leave the parked ones alone
+abbrev pub TurnsLeaveParked : Pair → Type 0
+TurnsLeaveParked w =
+    (n r : ℕ) (choices : List TurnChoice) → length (unparked_of w.adapter.kept) ≤ length choices → unparked_of (pair_run n r (turns_of choices) w).adapter.kept ≡ []
+
+-- where all messages have come, and no request waits for a turn: as many are outstanding as are parked
+abbrev pub OnlyParkedIsOutstanding : Pair → Type 0
+OnlyParkedIsOutstanding w = ClientIsOpen w → w.up ≡ [] → w.down ≡ [] → unparked_of w.adapter.kept ≡ [] → length w.client.asked ≡ parked_count w.adapter.kept
+
+-- the phases in which a response of the client may come
+abbrev pub IsAskedOrEnded : AdapterPhase → Type 0
+IsAskedOrEnded p = (p ≡ AdapterAsked) ⊎ (p ≡ AdapterEnded)
+
+-- in each run, where a response of the client is the first message under way up: this holds of the two ends, of whether it
+-- is a success and the debuggee then starts, and of the two ends when it has come
+abbrev pub AtEachAnswer : (Pair → Bool → Pair → Type 0) → Type 0
+AtEachAnswer P =
+    (n r : ℕ) (steps : List PairStep) (m : NumberedNote) (a : Ask) (ok starts : Bool) (ms : List NumberedNote) →
+    m.note.message ≡ Response a ok → (pair_run n r steps pair_start).up ≡ m ∷ ms →
+    P (pair_run n r steps pair_start) (ok && starts) (pair_happens n r (pair_run n r steps pair_start) (PairDeliverUp starts))
+
+-- the same, in one phase of the adapter
+abbrev pub AtEachAnswerIn : AdapterPhase → (Pair → Bool → Pair → Type 0) → Type 0
+AtEachAnswerIn p P = AtEachAnswer (λ w starts v. w.adapter.phase ≡ p → P w starts v)
+
+-- at each turn that answers setVariable: this holds of the two ends, of what the adapter then writes, and of the two ends
+-- after it
+abbrev pub AtEachSetVariable : (Pair → List Message → Pair → Type 0) → Type 0
+AtEachSetVariable P =
+    (n r : ℕ) (w : Pair) (ok : Bool) (more : List Bool) (named : List Ref) → sets_variable (oldest w.adapter.kept) ≡ true →
+    P w (adapter_model_turns w.adapter (inspection_succeeds r w.table [] [] (oldest w.adapter.kept) ok)).outs (pair_happens n r w (PairTurn ok more named))
 
 -- the answer that the terminal runs, or not, ends the waiting: the debuggee starts or does not, and the parked launch is answered
 pub record AnswersLaunch (w v : Pair) (ok : Bool) : Type 0 where

@@ -2,15 +2,13 @@
 //! looks for.
 //!
 //! Whatever is odd is an error here, and the caller reads the bytes in another way then.
-ghost use Rattle.std.specs.Prelude.{◌≡◌, ◌<◌, ◌≤◌, ◌++◌, [], List, length, Some, None, IfOk, IfSome, OnOk};
-ghost use Rattle.std.specs.List.{cons_option};
-ghost use Rattle.json.specs.Token.{Token as SpecToken};
+ghost use Rattle.std.specs.Prelude.{◌≡◌, ◌<◌, ◌++◌, length, Some, None, IfOk, IfSome, OnOk};
 ghost use Rattle.json.specs.Json.{value as grammar_value, items as grammar_items, members as grammar_members};
-ghost use Rattle.serde_json.specs.Data.{Data, Items, Members, array as array_data, object as object_data, no_members};
+ghost use Rattle.serde_json.specs.Data.{Data, Items, Members, object as object_data, no_members};
 ghost use Rattle.serde_json.specs.Read.{of_json, of_items, of_members, converted};
-ghost use Rattle.dap_json.specs.Inside.{IsRestInside, IsNextInside, IsAfterInnerKey, if_within, whole_of, numbers_in};
+ghost use Rattle.dap_json.specs.Inside.{IsNextInside, IsAfterInnerKey, whole_of, numbers_in, with_whole, EntersObject, EndsInner, AddsWhole, AddsWholes};
 ghost use Rattle.dap_json.specs.Field.{whole_at};
-ghost use Rattle.dap_json.specs.ObjectReader.{Describes, IsNext};
+ghost use Rattle.dap_json.specs.ObjectReader.{Describes};
 
 use crate::field::MAX_SEQ;
 use crate::object_reader::{MAX_DEPTH, MemberValue, ObjectReader, value};
@@ -37,7 +35,7 @@ pub fn whole(value: MemberValue<'_>) -> Option<u64>
 /// Adds a number, if there is one in the range. It is an error where memory is refused.
 #[inline(always)]
 pub fn keep(found: &mut Vec<u64>, range: Range, number: Option<u64>) -> Result<(), Invalid>
-    ensures { OnOk result (found.new.items ≡ found.old.items ++ cons_option (if_within range.least range.most number) []) }
+    ensures { OnOk result (found.new.items ≡ with_whole found.old.items range number) }
 {
     let Some(n) = number else {
         return Ok(());
@@ -100,7 +98,7 @@ impl<'a> ObjectReader<'a> {
     /// Enters the object that is the value of the key that came last. `inner_key` gives its members then. It is an error
     /// where the value is no object.
     pub fn enter(&mut self) -> Result<(), Invalid>
-        ensures entered { OnOk result ((rest : List SpecToken) (all : Members) → IsRestInside self.new rest no_members all → length rest ≤ length self.new → IsNext (object_data all) self.old rest) }
+        ensures entered { OnOk result (EntersObject self.old self.new) }
         ensures shorter { OnOk result (length self.new < length self.old) }
     {
         let Some(Token::BeginObject) = self.reader.next() else {
@@ -113,8 +111,8 @@ impl<'a> ObjectReader<'a> {
     /// `pass_inner`, `number` and `column` reads the value.
     #[inline(always)]
     pub fn inner_key(&mut self) -> Result<Option<&'a str>, Invalid>
-        ensures key { IfOk result (λ r. IfSome r (λ key. IsAfterInnerKey key.now self.old self.new)) }
-        ensures end { IfOk result (λ r. r ≡ None → (found : Members) → IsRestInside self.old self.new found found) }
+        ensures key { IfOk result (λ r. IfSome r (λ k. IsAfterInnerKey k.now self.old self.new)) }
+        ensures end { IfOk result (λ r. r ≡ None → EndsInner self.old self.new) }
         ensures shorter { OnOk result (length self.new < length self.old) }
     {
         let Some(key) = self.reader.next_key()? else {
@@ -134,7 +132,7 @@ impl<'a> ObjectReader<'a> {
     /// Passes the value of the inner key that came last, and adds it if it is a whole number in the range. It is also an
     /// error where memory is refused.
     pub fn number(&mut self, range: Range, found: &mut Vec<u64>) -> Result<(), Invalid>
-        ensures { OnOk result ((d : Data) × IsNextInside d self.old self.new × (found.new.items ≡ found.old.items ++ cons_option (if_within range.least range.most (whole_of d)) [])) }
+        ensures { OnOk result (AddsWhole range self.old self.new found.old found.new) }
     {
         let passed = self.pass_inner()?;
         keep(found, range, whole(passed))
@@ -143,7 +141,7 @@ impl<'a> ObjectReader<'a> {
     /// Passes the value of the inner key that came last, and adds the whole numbers in the range that its items have at a
     /// key. It is an error where the value is no array of objects, and where memory is refused.
     pub fn column(&mut self, key: &str, range: Range, found: &mut Vec<u64>) -> Result<(), Invalid>
-        ensures { OnOk result ((ds : Items) × IsNextInside (array_data ds) self.old self.new × (found.new.items ≡ found.old.items ++ numbers_in key.now range.least range.most ds)) }
+        ensures { OnOk result (AddsWholes key.now range self.old self.new found.old found.new) }
     {
         let Some(Token::BeginArray) = self.reader.next() else {
             return Err(Invalid);

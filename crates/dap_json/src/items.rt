@@ -1,12 +1,10 @@
 //! An array that stands in an object, read item by item, each as a value that is the caller's.
 //!
 //! Where nothing is given here, [`parse`](crate::parse) tells why.
-ghost use Rattle.std.specs.Prelude.{◌≡◌, ◌<◌, ◌≤◌, List, length, None, IfOk, IfSome, OnOk};
-ghost use Rattle.json.specs.Token.{Token as SpecToken};
-ghost use Rattle.serde_json.specs.Data.{Items, no_items, item, array as array_data};
+ghost use Rattle.std.specs.Prelude.{◌≡◌, ◌<◌, length, None, IfOk, IfSome, OnOk};
+ghost use Rattle.serde_json.specs.Data.{no_items, item};
 ghost use Rattle.serde_json.specs.View.{view};
-ghost use Rattle.dap_json.specs.ObjectReader.{IsNext};
-ghost use Rattle.dap_json.specs.Items.{IsRestOfItems};
+ghost use Rattle.dap_json.specs.Items.{IsRestOfItems, EntersItems, PassesItem};
 
 use crate::object_reader::{MAX_DEPTH, ObjectReader};
 use crate::reading;
@@ -18,7 +16,7 @@ impl<'a> ObjectReader<'a> {
     /// Enters the array that is the value of the key that came last. `next_item` gives its items then. It is an error where
     /// the value is no array.
     pub fn enter_items(&mut self) -> Result<(), Invalid>
-        ensures entered { OnOk result ((rest : List SpecToken) (all : Items) → IsRestOfItems self.new rest all → length rest ≤ length self.new → IsNext (array_data all) self.old rest) }
+        ensures entered { OnOk result (EntersItems self.old self.new) }
         ensures shorter { OnOk result (length self.new < length self.old) }
     {
         let Some(Token::BeginArray) = self.reader.next() else {
@@ -30,7 +28,7 @@ impl<'a> ObjectReader<'a> {
     /// The next item of the array that was entered, or `None` at its end, after which `next_key` goes on. It is also an error
     /// where memory is refused.
     pub fn next_item(&mut self, alloc: Global) -> Result<Option<Value>, Invalid>
-        ensures item { IfOk result (λ r. IfSome r (λ v. (rest : List SpecToken) (later : Items) → IsRestOfItems self.new rest later → IsRestOfItems self.old rest (item (view v) later))) }
+        ensures item { IfOk result (λ r. IfSome r (λ v. PassesItem (view v) self.old self.new)) }
         ensures end { IfOk result (λ r. r ≡ None → IsRestOfItems self.old self.new no_items) }
         ensures shorter { OnOk result (length self.new < length self.old) }
     {

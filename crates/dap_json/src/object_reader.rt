@@ -4,10 +4,9 @@
 //! What is passed is checked as [`parse`](crate::parse) checks it. Where nothing is given here, `parse` tells why.
 ghost use Rattle.std.specs.Prelude.{◌≡◌, ◌<◌, length, Some, None, IfOk, IfSome, OnOk, IsTrue, Float, slice_index, ◌==◌};
 ghost use Rattle.json.specs.Json.{value as grammar_value, items as grammar_items, members as grammar_members};
-ghost use Rattle.serde_json.specs.Data.{Data, Num, Items, Members, number as number_data, object as object_data, float, no_members, put};
-ghost use Rattle.serde_json.specs.Read.{of_json, of_items, of_members, converted, number_of, float_of};
-ghost use Rattle.dap_json.specs.Read.{json_of};
-ghost use Rattle.dap_json.specs.ObjectReader.{Describes, IsRestOf, IsNext, IsAfterKey};
+ghost use Rattle.serde_json.specs.Data.{Data, Num, Items, Members, number as number_data, float, no_members};
+ghost use Rattle.serde_json.specs.Read.{of_items, of_members, converted, number_of, float_of};
+ghost use Rattle.dap_json.specs.ObjectReader.{Describes, IsNext, IsAfterKey, ReadsObject, EndsObject, IsMember, PassesValue};
 
 pub use crate::inside::{Range, keep, whole};
 use crate::tree::Tree;
@@ -76,7 +75,7 @@ impl<'a> ObjectReader<'a> {
     /// length of the bytes, and is kept from object to object. It is an error where the bytes are not UTF-8, where no
     /// object begins, and where memory is refused.
     pub fn open(bytes: &'a [u8], scratch: &'a mut Scratch) -> Result<ObjectReader<'a>, Invalid>
-        ensures { IfOk result (λ object_reader. (all : Members) → IsRestOf object_reader no_members all → json_of bytes.now ≡ Some (object_data all)) }
+        ensures { IfOk result (ReadsObject bytes.now) }
     {
         let Ok(text) = simdutf8::basic::from_utf8(bytes) else {
             return Err(Invalid);
@@ -97,9 +96,8 @@ impl<'a> ObjectReader<'a> {
     /// and objects nest deeper than 127, where a number is too great for a float, and after the end.
     #[inline(always)]
     pub fn next(&mut self) -> Result<Option<(&'a str, MemberValue<'a>)>, Invalid>
-        ensures member { IfOk result (λ r. IfSome r (λ m. (d : Data) × Describes m.1 d
-            × ((found all : Members) → IsRestOf self.new (put m.0.now d found) all → IsRestOf self.old found all))) }
-        ensures end { IfOk result (λ r. r ≡ None → (found : Members) → IsRestOf self.old found found) }
+        ensures member { IfOk result (λ r. IfSome r (λ m. IsMember m.0.now m.1 self.old self.new)) }
+        ensures end { IfOk result (λ r. r ≡ None → EndsObject self.old) }
         ensures shorter { OnOk result (length self.new < length self.old) }
     {
         let Some(key) = self.next_key()? else {
@@ -114,7 +112,7 @@ impl<'a> ObjectReader<'a> {
     #[inline(always)]
     pub fn next_key(&mut self) -> Result<Option<&'a str>, Invalid>
         ensures key { IfOk result (λ r. IfSome r (λ key. IsAfterKey key.now self.old self.new)) }
-        ensures end { IfOk result (λ r. r ≡ None → (found : Members) → IsRestOf self.old found found) }
+        ensures end { IfOk result (λ r. r ≡ None → EndsObject self.old) }
         ensures shorter { OnOk result (length self.new < length self.old) }
     {
         let Some(key) = self.reader.next_key()? else {
@@ -149,7 +147,7 @@ impl<'a> ObjectReader<'a> {
 #[cycle(object_reader)]
 #[inline(always)]
 pub fn value<'a>(reader: &mut Reader<'a>, depth: usize) -> Result<MemberValue<'a>, Invalid>
-    ensures ok { IfOk result (λ s. (d : Data) × (converted of_json (grammar_value depth reader.old) ≡ Some (d, reader.new)) × Describes s d) }
+    ensures ok { IfOk result (PassesValue depth reader.old reader.new) }
     ensures shorter { OnOk result (length reader.new < length reader.old) }
 {
     match reader.next().ok_or(Invalid)? {

@@ -5,7 +5,7 @@ ghost use Rattle.serde_json.specs.View.{items_view};
 ghost use Rattle.dap_json.specs.Field.{object_of};
 ghost use Rattle.dap_json.specs.Lent.{lent_data};
 ghost use Rattle.dap_json.specs.Numbers.{int_of, number_of, seq_of};
-ghost use Rattle.dap_json.specs.Property.{ok_map, required, in_shape, in_shape_or};
+ghost use Rattle.dap_json.specs.Property.{ok_map, required, in_shape, text_result, shape_test, lent_shape_or};
 
 use crate::numbers;
 use serde_json::Value;
@@ -34,7 +34,7 @@ impl<'v, K: Copy + Drop> Property<'v, K> {
     }
 
     pub fn required_text(self) -> Result<&'v str, K>
-        ensures { ok_map (λ text. text.now) result ≡ required as_str self.entry.key (lent_data self.entry.found) }
+        ensures { text_result result ≡ required as_str self.entry.key (lent_data self.entry.found) }
     {
         self.found.and_then(Value::as_str).ok_or(self.key)
     }
@@ -88,7 +88,7 @@ impl<'v, K: Copy + Drop> Property<'v, K> {
 
     /// A whole number of 0 to 2147483647, or what counts where it is absent.
     pub fn number_or(self, default: u32) -> Result<u32, K>
-        ensures { result ≡ in_shape_or number_of default self.entry.key (lent_data self.entry.found) }
+        ensures { result ≡ lent_shape_or number_of default self.entry.key self.entry.found }
     {
         match self.found {
             None => Ok(default),
@@ -97,7 +97,7 @@ impl<'v, K: Copy + Drop> Property<'v, K> {
     }
 
     pub fn flag_or(self, default: bool) -> Result<bool, K>
-        ensures { result ≡ in_shape_or as_bool default self.entry.key (lent_data self.entry.found) }
+        ensures { result ≡ lent_shape_or as_bool default self.entry.key self.entry.found }
     {
         match self.found {
             None => Ok(default),
@@ -107,7 +107,7 @@ impl<'v, K: Copy + Drop> Property<'v, K> {
 
     /// Refuses what is there, but is no object.
     pub fn test_object(self) -> Result<(), K>
-        ensures { result ≡ ok_map (λ _. tt) (in_shape object_of self.entry.key (lent_data self.entry.found)) }
+        ensures { result ≡ shape_test object_of self.entry.key (lent_data self.entry.found) }
     {
         match self.found {
             Some(value) if !value.is_object() => Err(self.key),

@@ -5,8 +5,9 @@
 ghost use Rattle.std.specs.Prelude.{◌≡◌, ◌<◌, length, Some, IfOk, OnOk, option_map, true, false};
 ghost use Rattle.json.specs.Json.{value as grammar_value, items as grammar_items, members as grammar_members};
 ghost use Rattle.serde_json.specs.Data.{no_members};
-ghost use Rattle.serde_json.specs.Read.{of_json, of_items, of_members, converted, number_of, number_from, float_of};
+ghost use Rattle.serde_json.specs.Read.{of_items, of_members, converted, number_of, number_from, float_of};
 ghost use Rattle.serde_json.specs.View.{view, number_view, items_view, members_view};
+ghost use Rattle.dap_json.specs.ObjectReader.{ReadsValue};
 
 use crate::digits;
 use crate::object_reader::has_minus;
@@ -46,7 +47,7 @@ pub fn value(
     stack: &mut Vec<Value>,
     depth: usize,
 ) -> Result<Value, Unread>
-    ensures ok { IfOk result (λ v. converted of_json (grammar_value depth reader.old) ≡ Some (view v, reader.new)) }
+    ensures ok { IfOk result (λ v. ReadsValue depth reader.old (view v) reader.new) }
     ensures stack { OnOk result (stack.new.items ≡ stack.old.items) }
     ensures shorter { OnOk result (length reader.new < length reader.old) }
 {

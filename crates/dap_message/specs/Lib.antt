@@ -1,3 +1,4 @@
 pub mod PrivateAnswering
 pub mod MessageParts
+pub mod Appending
 pub mod Lengths

@@ -5,7 +5,6 @@
 ghost use Rattle.std.specs.Prelude.{◌≡◌, ◌≤◌, ◌++◌, length, take, IfOk, IsOk, OnOk, OnErr, IsTrue, None, Some, false, true};
 ghost use Rattle.json.specs.Tree.{members_tokens};
 ghost use Rattle.serde_json.specs.Written.{compact_text, members_outline, members_text};
-ghost use Rattle.dap_json.specs.Field.{max_seq};
 ghost use Rattle.dap_json.specs.Sound.{IsSound};
 ghost use Rattle.dap_json.specs.Writable.{is_plain_tree};
 ghost use Rattle.dap_body.specs.Adds.{Adds};
@@ -13,10 +12,8 @@ ghost use Rattle.dap_body.specs.Body.{data_in, event_data_in};
 ghost use Rattle.dap_body.specs.Failure.{failure_body};
 ghost use Rattle.dap_message.specs.PrivateAnswering.{with_body, with_arguments, end_members, response_end};
 ghost use Rattle.dap_envelope.specs.Canon.{canon, request_members, event_members, response_members};
-ghost use Rattle.dap_message.specs.MessageParts.{request_message, failure_response, success_response, event_message};
-ghost use Rattle.dap_envelope.specs.Meaning.{Msg};
-ghost use Rattle.dap_envelope.specs.Refusals.{max_command};
 ghost use Rattle.dap_envelope.specs.SoundMessage.{IsSoundTree};
+ghost use Rattle.dap_message.specs.Appending.{AddsFailure, AddsAnswer, AddsEvent, AddsRequest, FailureReadsBack, AnswerReadsBack, EventReadsBack, RequestReadsBack};
 
 use dap_body::{Body, EventBody, Failure, append_body, append_event_body, append_failure_body};
 use dap_envelope::laws::written_is_read_again;
@@ -299,8 +296,8 @@ pub fn append_failure(
     command: &str,
     failure: Failure,
 ) -> Result<(), AllocError>
-    ensures canon { OnOk result (out.new.items ≡ out.old.items ++ canon (failure_response seq request_seq command.now failure)) }
-    ensures reads_back { OnOk result (seq ≤ max_seq → request_seq ≤ max_seq → length command.now ≤ max_command → Msg (canon (failure_response seq request_seq command.now failure)) (failure_response seq request_seq command.now failure)) }
+    ensures canon { OnOk result (AddsFailure seq request_seq command.now failure out.old out.new) }
+    ensures reads_back { OnOk result (FailureReadsBack seq request_seq command.now failure) }
     ensures err { OnErr result (out.new.items ≡ out.old.items) }
 {
     // A law for the proof: what is written is read again.
@@ -326,8 +323,8 @@ pub fn append_answer(
     command: &str,
     body: &Option<Body>,
 ) -> Result<(), AllocError>
-    ensures canon { OnOk result (out.new.items ≡ out.old.items ++ canon (success_response seq request_seq command.now (data_in body.now))) }
-    ensures reads_back { OnOk result (seq ≤ max_seq → request_seq ≤ max_seq → length command.now ≤ max_command → Msg (canon (success_response seq request_seq command.now (data_in body.now))) (success_response seq request_seq command.now (data_in body.now))) }
+    ensures canon { OnOk result (AddsAnswer seq request_seq command.now body.now out.old out.new) }
+    ensures reads_back { OnOk result (AnswerReadsBack seq request_seq command.now body.now) }
     ensures err { OnErr result (out.new.items ≡ out.old.items) }
 {
     // A law for the proof: what is written is read again.
@@ -350,8 +347,8 @@ pub fn append_event(
     event: &str,
     body: Option<EventBody<'_>>,
 ) -> Result<(), AllocError>
-    ensures canon { OnOk result (out.new.items ≡ out.old.items ++ canon (event_message seq event.now (event_data_in body.entry))) }
-    ensures reads_back { OnOk result (seq ≤ max_seq → Msg (canon (event_message seq event.now (event_data_in body.entry))) (event_message seq event.now (event_data_in body.entry))) }
+    ensures canon { OnOk result (AddsEvent seq event.now body.entry out.old out.new) }
+    ensures reads_back { OnOk result (EventReadsBack seq event.now body.entry) }
     ensures err { OnErr result (out.new.items ≡ out.old.items) }
 {
     // A law for the proof: what is written is read again.
@@ -370,8 +367,8 @@ pub fn append_request(
     arguments: &Option<Tree>,
 ) -> Result<(), AllocError>
     requires { IsTrue (is_plain_tree arguments.now) }
-    ensures canon { OnOk result (out.new.items ≡ out.old.items ++ canon (request_message seq command.now arguments.now)) }
-    ensures reads_back { OnOk result (seq ≤ max_seq → length command.now ≤ max_command → Msg (canon (request_message seq command.now arguments.now)) (request_message seq command.now arguments.now)) }
+    ensures canon { OnOk result (AddsRequest seq command.now arguments.now out.old out.new) }
+    ensures reads_back { OnOk result (RequestReadsBack seq command.now arguments.now) }
     ensures err { OnErr result (out.new.items ≡ out.old.items) }
 {
     // A law for the proof: what is written is read again.

@@ -1,14 +1,16 @@
 -- What a call is about to write, behind what its buffer had before.
-use Rattle.std.specs.Prelude.{◌≡◌, ℕ, ◌+◌, ◌≤◌, List, [], ◌∷◌, ◌++◌, length, take, drop, Option, Some, None}
+use Rattle.std.specs.Prelude.{◌≡◌, ℕ, ◌+◌, ◌≤◌, List, [], ◌∷◌, ◌++◌, length, take, drop, nat_le, Bool, IsTrue, Option, Some, None}
 use Rattle.dap_json.specs.Field.{max_seq}
-use Rattle.dap_message.specs.MessageParts.{AdapterEvent, initialized, output, stopped, continued, exited, terminated}
+use Rattle.dap_message.specs.MessageParts.{AdapterEvent, initialized, output, stopped, continued, exited, terminated, success_response}
 use Rattle.dap_body.specs.Body.{data_in}
 use Rattle.dap_message.specs.Lengths.{max_fixed}
+use Rattle.dap_envelope.specs.Canon.{canon}
 use Rattle.dap_envelope.specs.ReadBack.{AllReadBack}
 use Rattle.dap_body.specs.declared.body.Body.{Body}
 use Rattle.dap_body.specs.declared.body.Body.TheVariants as body
 use Rattle.dap_debuggee.specs.Shown.{category_name}
 use Rattle.dap_tables.specs.Seq.{Numbers}
+use Rattle.dap_tables.specs.declared.entry.Entry.{Entry as Request}
 use Rattle.dap_outbox.specs.declared.answer.Answer.{Answer}
 use Rattle.dap_outbox.specs.declared.answer.Answer.TheVariants.{Success, Failure}
 use Rattle.dap_outbox.specs.declared.answer.Fixed.{Fixed}
@@ -16,7 +18,7 @@ use Rattle.dap_outbox.specs.declared.answer.Fixed.TheVariants.{Initialize, Conti
 use Rattle.dap_outbox.specs.declared.answer.Event.{Event}
 use Rattle.dap_outbox.specs.declared.answer.Event.TheVariants.{Initialized, Output, Stopped, Continued, Exited, Terminated}
 use Rattle.dap_outbox.specs.InRange.{AnswersInRange}
-use Rattle.dap_outbox.specs.Draft.{Answer as AnswerWord, success, failure, Draft, numbered_messages, bytes_of}
+use Rattle.dap_outbox.specs.Draft.{Answer as AnswerWord, success, failure, Draft, reply, emit, numbered_messages, bytes_of}
 
 -- what the buffer had before, the bytes of the messages behind it, and the own numbers that are left after them
 pub record OutboxState : Type 0 where
@@ -65,3 +67,22 @@ pub record AppendsDraft (most : ℕ) (old new : OutboxState) (d : Draft) : Type 
   pub last : new.numbers.last ≡ old.numbers.last
   pub given : new.numbers.used ≡ old.numbers.used + 1
   pub holds : (limit used : ℕ) (ds : List Draft) → most ≤ limit → Holds old limit used ds → Holds new limit used (ds ++ d ∷ [])
+
+-- no message yet, of a session that has used so many numbers
+abbrev pub HoldsNone : OutboxState → Numbers → Type 0
+HoldsNone outbox numbers = (limit : ℕ) → max_fixed ≤ limit → numbers.last ≤ max_seq → Holds outbox limit numbers.used []
+
+-- a request is answered, or an event is told
+abbrev pub AppendsReply : OutboxState → OutboxState → Request → Answer → Type 0
+AppendsReply old new request answer = AppendsDraft max_fixed old new (reply request (answer_of answer))
+
+abbrev pub AppendsEvent : OutboxState → OutboxState → Event → Type 0
+AppendsEvent old new event = AppendsDraft max_fixed old new (emit (event_of event))
+
+-- whether the answer to a request with a body has at most so many bytes
+abbrev pub answer_fits : ℕ → OutboxState → Request → Option Body → Bool
+answer_fits most old request given = nat_le (length (canon (success_response (old.numbers.used + 1) request.seq request.command (data_in given)))) most
+
+-- if it has, the request is answered so
+abbrev pub AnswersIfFits : ℕ → OutboxState → OutboxState → Request → Option Body → Bool → Type 0
+AnswersIfFits most old new request given fits = IsTrue fits → AppendsDraft most old new (reply request (success (data_in given) []))

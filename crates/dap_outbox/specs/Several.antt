@@ -1,7 +1,7 @@
 -- Answers to several kept requests.
-use Rattle.std.specs.Prelude.{◌≡◌, ℕ, ◌==◌, not, Bool, List, ◌++◌, filter, map, Option, Some, None}
+use Rattle.std.specs.Prelude.{◌≡◌, ℕ, ◌==◌, not, Bool, ◌+◌, ◌≤◌, List, ◌++◌, length, filter, map, Option, Some, None}
 use Rattle.dap_body.specs.declared.failure.Failure.{Failure}
-use Rattle.dap_tables.specs.Outstanding.{Kept, is_parked}
+use Rattle.dap_tables.specs.Outstanding.{Kept, entries, is_parked}
 use Rattle.dap_tables.specs.declared.entry.Entry.{Entry}
 use Rattle.dap_outbox.specs.declared.several.Chosen.{Chosen}
 use Rattle.dap_outbox.specs.declared.several.Chosen.TheVariants.{AllBut, Parked}
@@ -20,7 +20,15 @@ answer_by (Some f) = failure f
 abbrev pub answer_where : (ℕ → Bool) → Answer → List Entry → List Draft
 answer_where passes answer requests = map (λ r. reply r answer) (filter (λ r. passes r.seq) requests)
 
+-- an own number is left for the answer to each request that is chosen of those that are kept
+abbrev pub HasNumbersFor : OutboxState → Chosen → List Kept → Type 0
+HasNumbersFor outbox which kept = outbox.numbers.used + length (filter (λ r. is_chosen which kept r.seq) (entries kept)) ≤ outbox.numbers.last
+
 -- these messages more
 pub record WritesAll (old new : OutboxState) (ds : List Draft) : Type 0 where
   pub last : new.numbers.last ≡ old.numbers.last
   pub holds : (limit used : ℕ) (before : List Draft) → Holds old limit used before → Holds new limit used (before ++ ds)
+
+-- each request that is chosen is answered so, by arrival
+abbrev pub AnswersChosen : OutboxState → OutboxState → Chosen → Option Failure → List Kept → Type 0
+AnswersChosen old new which fault kept = WritesAll old new (answer_where (λ seq. is_chosen which kept seq) (answer_by fault) (entries kept))

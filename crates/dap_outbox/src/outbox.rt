@@ -1,11 +1,7 @@
 //! A buffer that is lent, with messages of a step behind what it had before.
-ghost use Rattle.std.specs.Prelude.{nat_le, ◌≡◌, ℕ, ◌+◌, ◌<◌, ◌≤◌, [], ◌++◌, length, IfOk, OnOk, OnErr, IsTrue, false};
-ghost use Rattle.dap_body.specs.Body.{data_in};
-ghost use Rattle.dap_envelope.specs.Canon.{canon};
-ghost use Rattle.dap_outbox.specs.Draft.{reply, emit, ask, success as success_word};
-ghost use Rattle.dap_outbox.specs.Outbox.{answer_of, event_of, IsReady, Holds, AppendsDraft};
-ghost use Rattle.dap_json.specs.Field.{max_seq};
-ghost use Rattle.dap_message.specs.MessageParts.{success_response};
+ghost use Rattle.std.specs.Prelude.{◌≡◌, ◌+◌, ◌<◌, ◌≤◌, ◌++◌, length, IfOk, OnOk, OnErr, false};
+ghost use Rattle.dap_outbox.specs.Draft.{ask};
+ghost use Rattle.dap_outbox.specs.Outbox.{event_of, IsReady, AppendsDraft, HoldsNone, AppendsReply, AppendsEvent, answer_fits, AnswersIfFits};
 ghost use Rattle.dap_message.specs.Lengths.{max_fixed, IsWithin};
 
 use crate::answer::{Answer, Event};
@@ -41,7 +37,7 @@ impl Outbox {
     pub fn behind(buffer: Vec<u8>, numbers: Seq) -> Outbox
         ensures before { result.before ≡ buffer.items }
         ensures ready { IsReady result numbers }
-        ensures holds { (limit : ℕ) → max_fixed ≤ limit → numbers.last ≤ max_seq → Holds result limit numbers.used [] }
+        ensures holds { HoldsNone result numbers }
     {
         let start = buffer.len();
         Outbox {
@@ -100,7 +96,7 @@ impl Outbox {
         answer: Answer,
     ) -> Result<(), AllocError>
         requires { self.old.numbers.used < self.old.numbers.last }
-        ensures writes { OnOk result (AppendsDraft max_fixed self.old self.new (reply request.now (answer_of answer))) }
+        ensures writes { OnOk result (AppendsReply self.old self.new request.now answer) }
         ensures before { self.new.before ≡ self.old.before }
         ensures err { OnErr result (self.new ≡ self.old) }
     {
@@ -121,8 +117,8 @@ impl Outbox {
         most: usize,
     ) -> Result<bool, AllocError>
         requires { self.old.numbers.used < self.old.numbers.last }
-        ensures fits { IfOk result (λ ok. ok ≡ nat_le (length (canon (success_response (self.old.numbers.used + 1) request.now.seq request.now.command (data_in body)))) most) }
-        ensures writes { IfOk result (λ ok. IsTrue ok → AppendsDraft most self.old self.new (reply request.now (success_word (data_in body) []))) }
+        ensures fits { IfOk result (λ ok. ok ≡ answer_fits most self.old request.now body) }
+        ensures writes { IfOk result (AnswersIfFits most self.old self.new request.now body) }
         ensures before { self.new.before ≡ self.old.before }
         ensures too_long { IfOk result (λ ok. ok ≡ false → self.new ≡ self.old) }
         ensures err { OnErr result (self.new ≡ self.old) }
@@ -144,7 +140,7 @@ impl Outbox {
     pub fn emit(&mut self, alloc: Global, event: Event) -> Result<(), AllocError>
         requires left { self.old.numbers.used < self.old.numbers.last }
         requires short { IsWithin (event_of event) }
-        ensures writes { OnOk result (AppendsDraft max_fixed self.old self.new (emit (event_of event))) }
+        ensures writes { OnOk result (AppendsEvent self.old self.new event) }
         ensures before { self.new.before ≡ self.old.before }
         ensures err { OnErr result (self.new ≡ self.old) }
     {

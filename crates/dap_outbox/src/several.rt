@@ -1,8 +1,7 @@
 //! Answers to several kept requests, one after the other.
 ghost use Rattle.std.specs.Prelude.{◌≡◌, ◌+◌, ◌≤◌, filter, length, OnOk};
-ghost use Rattle.dap_tables.specs.Outstanding.{entries};
 ghost use Rattle.dap_outbox.specs.Outbox.{answer_of};
-ghost use Rattle.dap_outbox.specs.Several.{is_chosen, answer_where, answer_by, WritesAll};
+ghost use Rattle.dap_outbox.specs.Several.{is_chosen, answer_where, answer_by, WritesAll, HasNumbersFor, AnswersChosen};
 
 use crate::answer::Answer;
 use crate::outbox::Outbox;
@@ -67,8 +66,8 @@ pub fn answer_chosen(
     which: Chosen,
     failure: Option<Failure>,
 ) -> Result<(), AllocError>
-    requires { outbox.old.numbers.used + length (filter (λ r. is_chosen which kept.now.kept r.seq) (entries kept.now.kept)) ≤ outbox.old.numbers.last }
-    ensures writes { OnOk result (WritesAll outbox.old outbox.new (answer_where (λ seq. is_chosen which kept.now.kept seq) (answer_by failure) (entries kept.now.kept))) }
+    requires { HasNumbersFor outbox.old which kept.now.kept }
+    ensures writes { OnOk result (AnswersChosen outbox.old outbox.new which failure kept.now.kept) }
     ensures before { outbox.new.before ≡ outbox.old.before }
 {
     answer_rest(alloc, outbox, kept, kept.in_order(), which, failure)

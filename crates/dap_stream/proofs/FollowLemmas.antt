@@ -168,15 +168,6 @@ module _ {C : Type 0} (goes : C → IoEvent → C → Type 0) (law : CallsAddUp 
     pub before_piece : ListedTo style limits frames (bytes ++ piece) (length bytes) [] out refused
     before_piece = listed_to_more style limits frames bytes piece (length bytes) [] out refused (omega arith) c.listed
 
-    -- memory is refused for the piece
-    pub unkept : Follows goes style limits most start now bytes (Err (follow.Show OutOfMemory))
-    unkept = record {
-      log = c.log;
-      ran = c.ran;
-      in_turn = c.in_turn;
-      reason = (c.flushed, (piece, sym c.read_is), subst (λ w. ListsSome style limits bytes [] w) c.written_is (record { bodies = c.listed.bodies; refused = refused; listed = c.listed.listed }));
-    }
-
     module _ (next : C) (lines all : List ℕ) (grown : all ≡ out ++ lines) (sent : Sends goes now next lines) where
       read_same : bytes_read (sent.log ++ c.log) ≡ bytes ++ piece
       read_same = law.quiet sent.log c.log sent.no_reads ∙ sym c.read_is

@@ -1,7 +1,7 @@
 -- A body without its line feeds and carriage returns is the same JSON: between tokens they are blanks, and in a text they are refused.
 use Rattle.std.proofs.Common.{◌≡◌, ℕ, zero, suc, ◌<◌, ◌≤◌, ◌==◌, ◌&&◌, ◌||◌, Bool, true, false, cond, List, [], ◌∷◌, ◌++◌, length, get_or, Option, Some, None, option_and_then, refl, sym, ap, ap₂, ◌∙◌, subst, arith, length-append, append-nil, inl, inr, IsUtf8, if◌then◌else◌}
 use Rattle.std.specs.Str.{is_utf8}
-use Rattle.std.proofs.lemmas.Bool.{true≢false, false≢true, and_parts, eqb-true, cases_Bool, cases_lt}
+use Rattle.std.proofs.lemmas.Bool.{true≢false, false≢true, and_parts, cases_Bool, cases_lt}
 use Rattle.std.proofs.lemmas.Str.{IsUtf8-append, IsUtf8-nil, IsUtf8-encode, IsUtf8-from_is_utf8, is_utf8-from_IsUtf8, encode_ascii, inside_one}
 use lib.Utf8.{scalar, scalars, encode, encodes}
 use Rattle.json.specs.Token.{Token, begin_object, end_object, begin_array, end_array, key, string, number, boolean, null, bad}
@@ -237,23 +237,6 @@ is_space_class other = false
 
 no_break_in : (x : ℕ) → is_space_class (class x) ≡ false → is_break x ≡ false
 no_break_in x h = no_break x (λ e. true≢false (sym (ap (λ y. is_space_class (class y)) e) ∙ h)) (λ e. true≢false (sym (ap (λ y. is_space_class (class y)) e) ∙ h))
-
-abbrev is_quote_class : Class → Bool
-is_quote_class quote = true
-is_quote_class backslash = false
-is_quote_class operator = false
-is_quote_class space = false
-is_quote_class other = false
-
-quoted : (q b o s : Bool) → is_quote_class (cond q quote (cond b backslash (cond o operator (cond s space other)))) ≡ true → q ≡ true
-quoted true b o s h = refl
-quoted false true o s h = absurd (false≢true h)
-quoted false false true s h = absurd (false≢true h)
-quoted false false false true h = absurd (false≢true h)
-quoted false false false false h = absurd (false≢true h)
-
-a_quote : (x : ℕ) → class x ≡ quote → x ≡ 34
-a_quote x e = eqb-true x 34 (quoted (x == 34) (x == 92) (is_operator x) (is_space x) (ap is_quote_class e))
 
 -- a class that ends a word
 abbrev ends_class : Class → Bool

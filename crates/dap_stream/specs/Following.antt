@@ -1,13 +1,14 @@
 -- What is listed of a stream while it comes: a statement on the calls of the channel. That all that is whole is written and
 -- flushed before the next read is this profile's choice.
 use Rattle.std.specs.Prelude.{◌≡◌, ℕ, ◌+◌, ◌<◌, ◌≤◌, Bool, List, [], ◌∷◌, ◌++◌, length, IsTrue, Result, Ok, Err}
-use Rattle.dap_channel.specs.Channel.{IoEvent, Gave, ReadFailed, Took, WriteFailed, Flushed, FlushFailed, Ran, bytes_read, bytes_written, is_flushed, MayGoOn, HasEnded, HasReadFailed, HasWriteFailed}
+use Rattle.dap_channel.specs.Channel.{IoEvent, Gave, ReadFailed, Took, WriteFailed, Flushed, FlushFailed, Ran, bytes_read, bytes_written, is_flushed, MayGoOn, HasEnded, HasReadFailed, HasWriteFailed, keeps_log}
 use Rattle.dap_frame.specs.Settings.{Settings, bounds_of}
 use Rattle.dap_frame.specs.Stream.{Split}
 use Rattle.dap_frame.specs.Verdict.{verdict, IsUnrefused}
 use Rattle.dap_stream.specs.Listing.{Listed, ListsAll, ListsSome, Shows}
 use Rattle.dap_stream.specs.declared.following.FollowFault.{FollowFault}
 use Rattle.dap_stream.specs.declared.following.FollowFault.TheVariants.{Read, Write, TooLong, Show}
+use Rattle.dap_stream.specs.declared.following.Followed.{Followed}
 use Rattle.dap_stream.specs.declared.lines.Style.{Style}
 use Rattle.dap_stream.specs.declared.listing.Shown.{Shown}
 use Rattle.dap_stream.specs.declared.listing.ShowFault.{ShowFault}
@@ -65,3 +66,13 @@ pub record Follows {C : Type 0} (goes : C → IoEvent → C → Type 0) (style :
   pub ran : Ran goes before log after
   pub in_turn : ReadsInTurn style limits most log
   pub reason : HasReason style limits most log bytes result
+
+-- the same, of what `follow` gives
+abbrev pub FollowsTo : {C : Type 0} → (C → IoEvent → C → Type 0) → Style → Settings → ℕ → C → C → Followed → Type 0
+FollowsTo goes style limits most before after followed = Follows goes style limits most before after followed.bytes.items followed.end
+
+-- of a channel that is the log of its calls, it is said of that very log
+abbrev pub FollowingIsOfTheLog : Type 0
+FollowingIsOfTheLog =
+    (style : Style) (limits : Settings) (most : ℕ) (calls : List IoEvent) (bytes : List ℕ) (result : Result Shown FollowFault) →
+    Follows keeps_log style limits most [] calls bytes result → ReadsInTurn style limits most calls × HasReason style limits most calls bytes result

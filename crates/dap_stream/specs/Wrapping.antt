@@ -1,6 +1,6 @@
 -- The frames of a file that has a body a line. That tools read such files is this profile's choice; a file's lines are
 -- those of `lines`, and the frames are those of Overview, "Base Protocol".
-use Rattle.std.specs.Prelude.{◌≡◌, ℕ, ◌+◌, ◌<◌, ◌≤◌, not, ◌==◌, List, ◌∷◌, ◌++◌, length, filter, flat_map, All}
+use Rattle.std.specs.Prelude.{◌≡◌, ◌≢◌, ◌⊎◌, Result, Err, ℕ, ◌+◌, ◌<◌, ◌≤◌, not, ◌==◌, List, ◌∷◌, ◌++◌, length, filter, flat_map, All}
 use Rattle.dap_frame.specs.Settings.{Settings}
 use Rattle.dap_frame.specs.Written.{frame_of}
 use Rattle.dap_envelope.specs.Meaning.{Msg}
@@ -48,3 +48,7 @@ pub record FirstRefused (limits : Settings) (texts : List (List ℕ)) (fault : W
   pub accepted : AreBodies limits before
   pub has_bytes : 0 < length text
   pub refuses : Refuses limits text (length before + 1) fault
+
+-- where a line is refused, and not for memory, the first such one is told, unless memory runs out
+abbrev pub TellsRefusal : {A : Type 0} → Settings → List (List ℕ) → Result A WrapFault → Type 0
+TellsRefusal limits texts result = (fault : WrapFault) → FirstRefused limits texts fault → fault ≢ OutOfMemory → (result ≡ Err fault) ⊎ (result ≡ Err OutOfMemory)

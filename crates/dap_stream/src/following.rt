@@ -1,13 +1,9 @@
 //! A stream that is listed while it comes.
 
-ghost use Rattle.std.specs.Prelude.{◌≡◌, ℕ, ◌+◌, ◌≤◌, ◌++◌, [], List, length, false, OnOk, IfOk, IfErr, Err, Result};
+ghost use Rattle.std.specs.Prelude.{◌≡◌, ℕ, ◌+◌, ◌++◌, [], false, OnOk, IfOk, IfErr, Err};
 ghost use Rattle.dap_frame.specs.Intake.{IsUnderWay};
 ghost use Rattle.dap_frame.specs.Settings.{Settings};
-ghost use Rattle.dap_channel.specs.Channel.{IoEvent, keeps_log};
-ghost use Rattle.dap_stream.specs.Following.{ReadsInTurn, HasReason, Follows};
-ghost use Rattle.dap_stream.specs.declared.following.FollowFault.{FollowFault};
-ghost use Rattle.dap_stream.specs.declared.lines.Style.{Style};
-ghost use Rattle.dap_stream.specs.declared.listing.Shown.{Shown};
+ghost use Rattle.dap_stream.specs.Following.{Follows, FollowsTo, FollowingIsOfTheLog};
 ghost use Rattle.dap_stream.specs.PrivateFollowing.{Came};
 
 use crate::lines::Style;
@@ -142,7 +138,7 @@ pub fn follow<C: Channel>(
     style: Style,
     most: usize,
 ) -> Followed
-    ensures { Follows C.goes style limits most channel.old channel.new result.bytes.items result.end }
+    ensures { FollowsTo C.goes style limits most channel.old channel.new result }
 {
     let mut bytes = Vec::new(alloc);
     let Ok(mut frames) = Frames::open(alloc, &limits) else {
@@ -155,8 +151,7 @@ pub fn follow<C: Channel>(
 
 /// A law: of a channel that is the log of its calls, what `follow` says is said of that very log.
 pub fn following_is_of_the_log()
-    ensures { (style : Style) (limits : Settings) (most : ℕ) (calls : List IoEvent) (bytes : List ℕ) (result : Result Shown FollowFault) → Follows keeps_log style limits most [] calls bytes result
-        → ReadsInTurn style limits most calls × HasReason style limits most calls bytes result }
+    ensures { FollowingIsOfTheLog }
 {
     calls_are_the_log();
 }

@@ -1,10 +1,10 @@
 //! Bodies, one a line, to frames.
 
-ghost use Rattle.std.specs.Prelude.{◌≡◌, ◌≢◌, ◌⊎◌, ◌++◌, OnOk, IfOk, IfErr};
+ghost use Rattle.std.specs.Prelude.{◌≡◌, ◌++◌, OnOk, IfOk, IfErr, IsOkUnless};
 ghost use Rattle.std.specs.Str.Lines.{lines};
 ghost use Rattle.dap_frame.specs.Written.{frame_of};
 ghost use Rattle.dap_stream.specs.declared.wrapping.WrapFault.{WrapFault};
-ghost use Rattle.dap_stream.specs.Wrapping.{IsBody, AreBodies, frames_of_bodies, Refuses, FirstRefused};
+ghost use Rattle.dap_stream.specs.Wrapping.{IsBody, AreBodies, frames_of_bodies, Refuses, FirstRefused, TellsRefusal};
 
 use crate::bodies::test_message;
 use dap_check::split_line;
@@ -78,8 +78,8 @@ pub fn wrap(alloc: Global, bytes: &[u8], limits: Limits) -> Result<Vec<u8>, Wrap
     ensures refused { IfErr result (FirstRefused limits (lines bytes.now)) }
 
     // And the other way, unless memory runs out.
-    ensures wraps { AreBodies limits (lines bytes.now) → IfErr result (λ fault. fault ≡ WrapFault.OutOfMemory) }
-    ensures refuses { (fault : WrapFault) → FirstRefused limits (lines bytes.now) fault → fault ≢ WrapFault.OutOfMemory → (result ≡ Err fault) ⊎ (result ≡ Err WrapFault.OutOfMemory) }
+    ensures wraps { AreBodies limits (lines bytes.now) → IsOkUnless result WrapFault.OutOfMemory }
+    ensures refuses { TellsRefusal limits (lines bytes.now) result }
 {
     // A law for the proof: no line is both a message and refused.
     each_body_is_one();

@@ -3,7 +3,7 @@ use Rattle.std.proofs.Common.{◌≡◌, ℕ, [], ◌∷◌, false, codes, refl,
 use Rattle.dap_command.specs.declared.source_key.SourceKey.{SourceKey}
 use Rattle.dap_command.specs.declared.source_key.SourceKey.TheVariants.{Path, Reference}
 use Rattle.dap_tables.specs.SourceMap.{set_of, count, HasDistinctSources, HasNoEmptyList}
-use Rattle.dap_tables.specs.Breakpoints.{SetBreakpoints, no_breakpoints, breakpoints_with, count_with, max_id, HasNoRoomForLines, IsRefusedForIds}
+use Rattle.dap_tables.specs.Breakpoints.{SetBreakpoints, no_breakpoints, breakpoints_with, count_with, max_id, HasNoRoomForLines, LacksIds}
 use Rattle.dap_command.specs.SameSource.{is_source}
 
 abbrev a : SourceKey
@@ -56,7 +56,7 @@ one_too_many : HasNoRoomForLines (Reference 1) (1 ∷ []) (record { room = 3; br
 one_too_many = lit< tt
 
 -- the greatest id can be given, and none after it
-past_the_greatest : IsRefusedForIds a (1 ∷ 2 ∷ []) (record { room = 3; breakpoints = record { sources = []; next_id = max_id } })
+past_the_greatest : LacksIds a (1 ∷ 2 ∷ []) (record { room = 3; breakpoints = record { sources = []; next_id = max_id } })
 past_the_greatest = record { room = lit≤ tt; ids = lit< tt }
 
 the_greatest : set_of a (breakpoints_with a (1 ∷ []) (record { sources = []; next_id = max_id })).sources ≡ (9007199254740991, 1) ∷ []

@@ -2,9 +2,10 @@
 --
 -- Specification, "SetBreakpointsRequest": a request replaces all breakpoints of one source.
 -- That ids rise and never come again, and the two limits, are this profile's choices.
-use Rattle.std.specs.Prelude.{ℕ, ◌+◌, ◌≤◌, ◌<◌, List, [], ◌∷◌, length}
+use Rattle.std.specs.Prelude.{◌≡◌, ℕ, ◌+◌, ◌≤◌, ◌<◌, false, List, [], ◌∷◌, length}
+use Rattle.dap_command.specs.SameSource.{is_source}
 use Rattle.dap_command.specs.declared.source_key.SourceKey.{SourceKey}
-use Rattle.dap_tables.specs.SourceMap.{OfSource, count, of_others, with_set, HasDistinctSources, HasNoEmptyList}
+use Rattle.dap_tables.specs.SourceMap.{OfSource, set_of, count, of_others, with_set, HasDistinctSources, HasNoEmptyList}
 
 -- those of each source that has some, each its id and its line, and the id that comes next
 pub record SetBreakpoints : Type 0 where
@@ -18,6 +19,14 @@ no_breakpoints = record { sources = []; next_id = 1 }
 pub record BreakpointTable : Type 0 where
   pub room : ℕ
   pub breakpoints : SetBreakpoints
+
+-- none is set, and there is room for so many
+abbrev pub empty_breakpoints : ℕ → BreakpointTable
+empty_breakpoints room = record { room = room; breakpoints = no_breakpoints }
+
+-- those of one source
+abbrev pub breakpoints_of : SourceKey → BreakpointTable → List (ℕ × ℕ)
+breakpoints_of key table = set_of key table.breakpoints.sources
 
 -- the greatest id
 abbrev pub max_id : ℕ
@@ -34,6 +43,18 @@ lines_with_ids first (line ∷ lines) = (first, line) ∷ lines_with_ids (first 
 abbrev pub breakpoints_with : SourceKey → List ℕ → SetBreakpoints → SetBreakpoints
 breakpoints_with key lines b = record { sources = with_set key (lines_with_ids b.next_id lines) (of_others key b.sources); next_id = b.next_id + length lines }
 
+-- the same, of a table
+abbrev pub table_with_lines : SourceKey → List ℕ → BreakpointTable → BreakpointTable
+table_with_lines key lines table = record table { breakpoints = breakpoints_with key lines table.breakpoints }
+
+-- lines with the ids that come next
+abbrev pub with_ids : List ℕ → BreakpointTable → List (ℕ × ℕ)
+with_ids lines table = lines_with_ids table.breakpoints.next_id lines
+
+-- each other source has what it had
+abbrev pub KeepsOtherSources : SourceKey → BreakpointTable → BreakpointTable → Type 0
+KeepsOtherSources key old new = (other : SourceKey) → is_source key other ≡ false → breakpoints_of other new ≡ breakpoints_of other old
+
 -- ---- when lines are refused
 
 -- how many would stand
@@ -45,7 +66,7 @@ abbrev pub HasNoRoomForLines : SourceKey → List ℕ → BreakpointTable → Ty
 HasNoRoomForLines key lines table = table.room < count_with key lines table.breakpoints
 
 -- there is room, and an id would be past the greatest
-pub record IsRefusedForIds (key : SourceKey) (lines : List ℕ) (table : BreakpointTable) : Type 0 where
+pub record LacksIds (key : SourceKey) (lines : List ℕ) (table : BreakpointTable) : Type 0 where
   pub room : count_with key lines table.breakpoints ≤ table.room
   pub ids : max_id + 1 < table.breakpoints.next_id + length lines
 

@@ -27,6 +27,13 @@ abbrev pub with_pairs : List (ReferenceKind × ℕ) → List (ReferenceKind × �
 with_pairs [] pairs = pairs
 with_pairs (p ∷ ps) pairs = with_pairs ps (with_pair p pairs)
 
+-- the same, of a table, and how many it would hold
+abbrev pub known_with_pairs : List (ReferenceKind × ℕ) → KnownReferences → KnownReferences
+known_with_pairs given table = record table { pairs = with_pairs given table.pairs }
+
+abbrev pub count_known_with : List (ReferenceKind × ℕ) → KnownReferences → ℕ
+count_known_with given table = length (with_pairs given table.pairs)
+
 -- no pair is held twice
 abbrev pub HasDistinctPairs : List (ReferenceKind × ℕ) → Type 0
 HasDistinctPairs [] = Unit {0}

@@ -3,7 +3,7 @@
 -- A request has a number of its own (Specification page, `Request.seq`), and its response names that number
 -- (`Response.request_seq`). So no two requests that are kept have the same one.
 -- That only so many are kept, and that a request can be parked, are this profile's choices.
-use Rattle.std.specs.Prelude.{◌≡◌, ℕ, ◌≤◌, ◌==◌, Bool, false, not, ◌&&◌, if◌then◌else◌, Option, List, [], ◌∷◌, length, map, filter, find, option_map}
+use Rattle.std.specs.Prelude.{◌≡◌, ℕ, ◌≤◌, ◌==◌, Bool, false, not, ◌&&◌, if◌then◌else◌, Option, IsTrue, List, [], ◌∷◌, ◌++◌, length, map, filter, find, option_map}
 use Rattle.std.specs.List.{list_any}
 use Rattle.dap_tables.specs.declared.entry.Entry.{Entry}
 
@@ -28,6 +28,14 @@ entries kept = map (λ k. k.entry) kept
 -- whether a request with this number is kept
 abbrev pub contains_seq : ℕ → List Kept → Bool
 contains_seq seq kept = list_any (λ k. k.entry.seq == seq) kept
+
+-- the same, of a table
+abbrev pub IsOutstanding : ℕ → KeptRequests → Type 0
+IsOutstanding seq table = IsTrue (contains_seq seq table.kept)
+
+-- one more, behind the others
+abbrev pub with_request : Entry → KeptRequests → KeptRequests
+with_request entry table = record table { kept = table.kept ++ kept_unparked entry ∷ [] }
 
 -- the request with this number
 abbrev pub entry_with : ℕ → List Kept → Option Entry

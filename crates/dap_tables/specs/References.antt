@@ -2,9 +2,11 @@
 --
 -- Overview, "Lifetime of Objects References": a reference lives until the debuggee goes on.
 -- That an object keeps its number while it lives, that numbers never come again, and the two limits, are this profile's choices.
-use Rattle.std.specs.Prelude.{◌≡◌, ℕ, ◌+◌, ◌-◌, ◌≤◌, ◌<◌, List, [], ◌∷◌, ◌++◌, length, take, Bool, true, false, ◌==◌, ◌&&◌, nat_lt, Option, Some, None, Result, Ok, Err, position, slice_get, is_some, if◌then◌else◌}
+use Rattle.std.specs.Prelude.{◌≡◌, ℕ, ◌+◌, ◌-◌, ◌≤◌, ◌<◌, List, [], ◌∷◌, ◌++◌, length, take, Bool, true, false, ◌==◌, ◌&&◌, nat_lt, Option, Some, None, Result, Ok, Err, position, slice_get, is_some, IfSome, if◌then◌else◌}
 use Rattle.dap_tables.specs.declared.reference_kind.ReferenceKind.{ReferenceKind}
 use Rattle.dap_tables.specs.declared.reference_kind.ReferenceKind.TheVariants.{Frame, Holder}
+use Rattle.dap_tables.specs.declared.ref_fault.RefFault.{RefFault}
+use Rattle.dap_tables.specs.declared.ref_fault.RefFault.TheVariants.{Full, Exhausted}
 use Rattle.dap_tables.specs.declared.target.Target.{Target}
 
 -- so many numbers were given to what is dead; the target at place p of those that are live has the number base + 1 + p
@@ -20,6 +22,10 @@ pub record ReferenceTable : Type 0 where
   pub room : ℕ
   pub greatest : ℕ
   pub references : LiveReferences
+
+-- none is live, and no number was given
+abbrev pub empty_references : ℕ → ℕ → ReferenceTable
+empty_references room greatest = record { room = room; greatest = greatest; references = no_references }
 
 abbrev pub frame_of : ℕ → Target
 frame_of object = record { kind = Frame; object = object }
@@ -58,6 +64,13 @@ without_references refs = record { base = refs.base + length refs.live; live = [
 abbrev pub back_to : ℕ → LiveReferences → LiveReferences
 back_to marked refs = record refs { live = take marked refs.live }
 
+-- the same two, of a table
+abbrev pub table_without_references : ReferenceTable → ReferenceTable
+table_without_references table = record table { references = without_references table.references }
+
+abbrev pub table_back_to : ℕ → ReferenceTable → ReferenceTable
+table_back_to marked table = record table { references = back_to marked table.references }
+
 -- ---- a number for a target; full and exhausted are what is answered where there are too many and where no number is left
 
 abbrev pub numbered_next : {Fault : Type 0} → Fault → Fault → ℕ → ℕ → Target → LiveReferences → Result (ℕ × LiveReferences) Fault
@@ -75,6 +88,15 @@ numbered_at None full exhausted room greatest target refs = numbered_next full e
 -- a live target keeps its number
 abbrev pub intern_result : {Fault : Type 0} → Fault → Fault → ℕ → ℕ → Target → LiveReferences → Result (ℕ × LiveReferences) Fault
 intern_result full exhausted room greatest target refs = numbered_at (place_of target refs.live) full exhausted room greatest target refs
+
+-- a table gives it this number
+abbrev pub Interns : Target → ReferenceTable → ℕ → ReferenceTable → Type 0
+Interns target old number new = intern_result Full Exhausted old.room old.greatest target old.references ≡ Ok (number, new.references)
+
+-- where it is live, its number is the answer, and nothing changes
+abbrev pub KeepsNumber : Target → ReferenceTable → Result ℕ RefFault → ReferenceTable → Type 0
+KeepsNumber target old result new =
+    IfSome (place_of target old.references.live) (λ place. (result ≡ Ok (old.references.base + 1 + place)) × (new ≡ old))
 
 -- ---- when a target gets no number
 

@@ -44,6 +44,10 @@ abbrev pub with_set : {A : Type 0} → SourceKey → List A → List (OfSource A
 with_set key [] sources = sources
 with_set key (b ∷ set) sources = in_place (record { source = key; set = b ∷ set }) sources
 
+-- the list of one source in place of the one that it has
+abbrev pub with_set_for : {A : Type 0} → SourceKey → List A → List (OfSource A) → List (OfSource A)
+with_set_for key set sources = with_set key set (of_others key sources)
+
 -- ---- what is true of every map
 
 -- no source comes twice

@@ -1,9 +1,8 @@
 //! The breakpoints that are set, by source.
-ghost use Rattle.std.specs.Prelude.{◌≡◌, ◌+◌, ◌<◌, ◌≤◌, ◌↔◌, List, ℕ, [], ◌++◌, length, false, IsTrue, IsOk, IfOk, OnOk, OnErr, Ok, Err};
-ghost use Rattle.dap_command.specs.declared.source_key.SourceKey.{SourceKey as Source};
+ghost use Rattle.std.specs.Prelude.{◌≡◌, ◌+◌, ◌<◌, ◌≤◌, ◌↔◌, [], length, IsTrue, IsOk, IfOk, OnOk, OnErr, Ok, Err};
 ghost use Rattle.dap_tables.specs.SourceMap.{set_of, count, of_others, with_set};
-ghost use Rattle.dap_tables.specs.Breakpoints.{BreakpointTable, no_breakpoints, lines_with_ids, breakpoints_with, max_id, IsAllowed, HasNoRoomForLines, IsRefusedForIds, TakesIds, IsOrderlyBreakpoints};
-ghost use Rattle.dap_command.specs.SameSource.{is_source};
+ghost use Rattle.dap_tables.specs.Breakpoints.{BreakpointTable, lines_with_ids, max_id, IsAllowed, HasNoRoomForLines, LacksIds, TakesIds, IsOrderlyBreakpoints, empty_breakpoints, breakpoints_of, table_with_lines, with_ids, KeepsOtherSources};
+ghost use Rattle.dap_tables.specs.declared.bp_fault.BpFault.TheVariants.{Full, Exhausted, OutOfMemory};
 
 use crate::bp_fault::BpFault;
 use crate::source_map::SourceMap;
@@ -76,7 +75,7 @@ fn set_lines(
 impl Breakpoints {
     /// None yet, and room for `k` in all lists together. It takes no memory, so that it never fails.
     pub fn open(alloc: Global, k: usize) -> Result<Breakpoints, AllocError>
-        ensures empty { IfOk result (λ table. table ≡ record { room = k; breakpoints = no_breakpoints }) }
+        ensures empty { IfOk result (λ table. table ≡ empty_breakpoints k) }
         ensures memory { IsOk result }
     {
         Ok(Breakpoints {
@@ -99,19 +98,19 @@ impl Breakpoints {
     /// `OutOfMemory` where memory is refused. The table is then as it was.
     #[tactic(auto, using(crate::proofs::SetLemmas::replacing))]
     pub fn replace(&mut self, source: SourceKey, lines: &[u32]) -> Result<u64, BpFault>
-        ensures ok { OnOk result (self.new ≡ record self.old { breakpoints = breakpoints_with source lines.now self.old.breakpoints }) }
+        ensures ok { OnOk result (self.new ≡ table_with_lines source lines.now self.old) }
         ensures first { IfOk result (λ first. first ≡ self.old.breakpoints.next_id) }
         ensures err { OnErr result (self.new ≡ self.old) }
 
         // Which refusal comes.
-        ensures full { (result ≡ Err BpFault.Full) ↔ HasNoRoomForLines source lines.now self.old }
-        ensures exhausted { (result ≡ Err BpFault.Exhausted) ↔ IsRefusedForIds source lines.now self.old }
-        ensures memory { result ≡ Err BpFault.OutOfMemory → TakesIds source lines.now self.old }
+        ensures full { (result ≡ Err Full) ↔ HasNoRoomForLines source lines.now self.old }
+        ensures exhausted { (result ≡ Err Exhausted) ↔ LacksIds source lines.now self.old }
+        ensures memory { result ≡ Err OutOfMemory → TakesIds source lines.now self.old }
         ensures none { length lines.now ≡ 0 → result ≡ Ok self.old.breakpoints.next_id }
 
         // The source has these lines, and each other source what it had.
-        ensures set { OnOk result (set_of source self.new.breakpoints.sources ≡ lines_with_ids self.old.breakpoints.next_id lines.now) }
-        ensures others { OnOk result ((other : Source) → is_source source other ≡ false → set_of other self.new.breakpoints.sources ≡ set_of other self.old.breakpoints.sources) }
+        ensures set { OnOk result (breakpoints_of source self.new ≡ with_ids lines.now self.old) }
+        ensures others { OnOk result (KeepsOtherSources source self.old self.new) }
         ensures orderly { IsOrderlyBreakpoints self.new }
     {
         if let Err(fault) = self.check(&source, lines) {
@@ -133,9 +132,9 @@ impl Breakpoints {
     /// `Full` and `Exhausted`, where `replace` would answer them.
     pub fn check(&self, source: &SourceKey, lines: &[u32]) -> Result<(), BpFault>
         ensures ok { OnOk result (IsAllowed source.now lines.now self.now) }
-        ensures full { (result ≡ Err BpFault.Full) ↔ HasNoRoomForLines source.now lines.now self.now }
-        ensures exhausted { (result ≡ Err BpFault.Exhausted) ↔ IsRefusedForIds source.now lines.now self.now }
-        ensures memory { result ≡ Err BpFault.OutOfMemory → ⊥ }
+        ensures full { (result ≡ Err Full) ↔ HasNoRoomForLines source.now lines.now self.now }
+        ensures exhausted { (result ≡ Err Exhausted) ↔ LacksIds source.now lines.now self.now }
+        ensures memory { result ≡ Err OutOfMemory → ⊥ }
         ensures none { OnErr result (0 < length lines.now) }
     {
         if lines.len() > self.room - self.count_of_others(source) {

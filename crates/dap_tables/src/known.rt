@@ -1,7 +1,8 @@
 //! The references that a peer gave.
-ghost use Rattle.std.specs.Prelude.{◌≡◌, ◌≤◌, ◌<◌, ◌↔◌, [], length, take, IsTrue, IsOk, IfErr, OnOk, OnErr, Ok, Err, IfOk};
-ghost use Rattle.dap_tables.specs.Known.{has_pair, with_pair, with_pairs, IsSet, TakesRoom};
+ghost use Rattle.std.specs.Prelude.{◌≡◌, ◌≤◌, ◌<◌, ◌↔◌, [], length, take, IsTrue, IsOk, OnOk, OnErr, Err, IfOk};
+ghost use Rattle.dap_tables.specs.Known.{has_pair, with_pair, with_pairs, IsSet, TakesRoom, known_with_pairs, count_known_with};
 ghost use Rattle.dap_tables.specs.PrivateKnownStore.{target_of_pair, pairs_of_targets};
+ghost use Rattle.dap_tables.specs.declared.known.KnownFault.TheVariants.{Full, OutOfMemory};
 
 use crate::live_targets::LiveTargets;
 use crate::reference_kind::ReferenceKind;
@@ -63,8 +64,8 @@ fn add_one(
     ensures ok { OnOk result (pairs_of_targets held.new ≡ with_pair (kind, number) (pairs_of_targets held.old)) }
     ensures within { OnOk result (length held.new ≤ room) }
     ensures err { OnErr result (held.new ≡ held.old) }
-    ensures full { result ≡ Err KnownFault.Full → room < length (with_pair (kind, number) (pairs_of_targets held.old)) }
-    ensures memory { result ≡ Err KnownFault.OutOfMemory → (length held.old < length (with_pair (kind, number) (pairs_of_targets held.old))) × (length held.old < room) }
+    ensures full { result ≡ Err Full → room < length (with_pair (kind, number) (pairs_of_targets held.old)) }
+    ensures memory { result ≡ Err OutOfMemory → (length held.old < length (with_pair (kind, number) (pairs_of_targets held.old))) × (length held.old < room) }
 {
     let target = stored(kind, number);
     if has(held, target) {
@@ -90,8 +91,8 @@ fn add_each(
     ensures within { OnOk result (length held.new ≤ room) }
     ensures front { OnErr result (take (length held.old) (pairs_of_targets held.new) ≡ pairs_of_targets held.old) }
     ensures more { length held.old ≤ length held.new }
-    ensures full { result ≡ Err KnownFault.Full → room < length (with_pairs given.now (pairs_of_targets held.old)) }
-    ensures memory { result ≡ Err KnownFault.OutOfMemory → (length held.old < length (with_pairs given.now (pairs_of_targets held.old))) × (length held.old < room) }
+    ensures full { result ≡ Err Full → room < length (with_pairs given.now (pairs_of_targets held.old)) }
+    ensures memory { result ≡ Err OutOfMemory → (length held.old < length (with_pairs given.now (pairs_of_targets held.old))) × (length held.old < room) }
 {
     let mut rest = given;
     while let Some((pair, others)) = rest.split_first() {
@@ -122,14 +123,14 @@ impl Known {
     /// `Full` only where more would be held than there is room for; `OutOfMemory` where memory for one that is not held is
     /// refused. The table is then as it was.
     pub fn add(&mut self, given: &[(ReferenceKind, u32)]) -> Result<(), KnownFault>
-        ensures ok { OnOk result (self.new ≡ record self.old { pairs = with_pairs given.now self.old.pairs }) }
-        ensures within { OnOk result (length (with_pairs given.now self.old.pairs) ≤ self.old.room) }
+        ensures ok { OnOk result (self.new ≡ known_with_pairs given.now self.old) }
+        ensures within { OnOk result (count_known_with given.now self.old ≤ self.old.room) }
         ensures err { OnErr result (self.new ≡ self.old) }
         ensures set { IsSet self.new }
 
         // Which refusal comes.
-        ensures full { result ≡ Err KnownFault.Full → self.old.room < length (with_pairs given.now self.old.pairs) }
-        ensures memory { result ≡ Err KnownFault.OutOfMemory → TakesRoom given.now self.old }
+        ensures full { result ≡ Err Full → self.old.room < count_known_with given.now self.old }
+        ensures memory { result ≡ Err OutOfMemory → TakesRoom given.now self.old }
     {
         let before = self.held.len();
         match add_each(&mut self.held, self.room, given) {

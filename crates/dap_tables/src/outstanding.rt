@@ -1,8 +1,9 @@
 //! The requests that an end has still to answer.
-ghost use Rattle.std.specs.Prelude.{◌≡◌, ◌<◌, ◌≤◌, ◌↔◌, [], ◌∷◌, ◌++◌, true, false, length, IsTrue, IsSome, IfOk, IfErr, IfSome, IfNone, OnOk, OnErr, Err, Some, find};
+ghost use Rattle.std.specs.Prelude.{◌≡◌, ◌<◌, ◌≤◌, ◌↔◌, [], true, false, length, IsTrue, IsSome, IfOk, IfErr, IfSome, IfNone, OnOk, OnErr, Err, Some, find};
 ghost use Rattle.std.specs.Option.{option_copied, option_map};
-ghost use Rattle.dap_tables.specs.Outstanding.{IsOrderlyRequests, HasNoRoomForRequest, kept_unparked, entries, contains_seq, entry_with, without, is_parked, with_mark, oldest_unparked, parked_ones, unparked_ones};
+ghost use Rattle.dap_tables.specs.Outstanding.{IsOrderlyRequests, HasNoRoomForRequest, entries, contains_seq, entry_with, without, is_parked, with_mark, oldest_unparked, parked_ones, unparked_ones, IsOutstanding, with_request};
 ghost use Rattle.dap_tables.specs.PutFault.{refused_entry};
+ghost use Rattle.dap_tables.specs.declared.put_fault.PutFault.TheVariants.{Repeated, Full};
 
 use crate::arrivals::Arrivals;
 use crate::entry::Entry;
@@ -63,14 +64,14 @@ impl Outstanding {
     ///
     /// `Repeated` comes where its seq is kept already, else `Full` where there is no room.
     pub fn put(&mut self, entry: Entry) -> Result<(), PutFault>
-        ensures ok { OnOk result (self.new ≡ record self.old { kept = self.old.kept ++ kept_unparked entry ∷ [] }) }
+        ensures ok { OnOk result (self.new ≡ with_request entry self.old) }
         ensures err { OnErr result (self.new ≡ self.old) }
         ensures orderly { IsOrderlyRequests self.new }
 
         // Which refusal comes, and that it hands the request back.
         ensures handed_back { IfErr result (λ fault. refused_entry fault ≡ entry) }
-        ensures repeated { (result ≡ Err (PutFault.Repeated entry)) ↔ IsTrue (contains_seq entry.seq self.old.kept) }
-        ensures full { (result ≡ Err (PutFault.Full entry)) ↔ HasNoRoomForRequest entry.seq self.old }
+        ensures repeated { (result ≡ Err (Repeated entry)) ↔ IsOutstanding entry.seq self.old }
+        ensures full { (result ≡ Err (Full entry)) ↔ HasNoRoomForRequest entry.seq self.old }
         ensures new { OnOk result (contains_seq entry.seq self.old.kept ≡ false) }
 
         // The request is found again by its seq, and taking it out gives back what was kept before.

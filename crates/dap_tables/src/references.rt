@@ -1,7 +1,7 @@
 //! The numbers of what a client may ask for while the debuggee is stopped.
-ghost use Rattle.std.specs.Prelude.{◌≡◌, ◌<◌, ◌≤◌, ◌+◌, ◌↔◌, [], length, IsTrue, IsOk, IfOk, IfSome, OnErr, Ok, Err, Some};
+ghost use Rattle.std.specs.Prelude.{◌≡◌, ◌≤◌, ◌↔◌, [], length, IsTrue, IsOk, IfOk, OnErr, Err, Some};
 ghost use Rattle.std.specs.Option.{option_copied};
-ghost use Rattle.dap_tables.specs.References.{ReferenceTable, no_references, is_live, place_of, target_of, without_references, back_to, intern_result, HasNoRoomForTarget, IsRefusedForNumber, TakesNumber, IsOrderlyReferences};
+ghost use Rattle.dap_tables.specs.References.{ReferenceTable, target_of, HasNoRoomForTarget, IsRefusedForNumber, TakesNumber, IsOrderlyReferences, empty_references, Interns, KeepsNumber, table_back_to, table_without_references};
 
 use crate::live_targets::LiveTargets;
 use crate::mark::Mark;
@@ -35,7 +35,7 @@ impl Model for References {
 impl References {
     /// None yet: room for `r` at once, and `m` the greatest number. It takes no memory, so that it never fails.
     pub fn open(alloc: Global, r: usize, m: u32) -> Result<References, AllocError>
-        ensures empty { IfOk result (λ table. table ≡ record { room = r; greatest = m; references = no_references }) }
+        ensures empty { IfOk result (λ table. table ≡ empty_references r m) }
         ensures memory { IsOk result }
     {
         Ok(References {
@@ -54,7 +54,7 @@ impl References {
     /// `Full` where as many are live as there is room for, else `Exhausted` where no number is left, else `OutOfMemory` where
     /// memory for one more is refused. The table is then as it was.
     pub fn intern(&mut self, target: Target) -> Result<u32, RefFault>
-        ensures ok { IfOk result (λ number. intern_result RefFault.Full RefFault.Exhausted self.old.room self.old.greatest target self.old.references ≡ Ok (number, self.new.references)) }
+        ensures ok { IfOk result (λ number. Interns target self.old number self.new) }
         ensures limits { (self.new.room ≡ self.old.room) × (self.new.greatest ≡ self.old.greatest) }
         ensures err { OnErr result (self.new ≡ self.old) }
 
@@ -64,7 +64,7 @@ impl References {
         ensures memory { result ≡ Err RefFault.OutOfMemory → TakesNumber target self.old }
 
         // A target that is live keeps its number, whatever is full, and nothing changes.
-        ensures known { IfSome (place_of target self.old.references.live) (λ place. (result ≡ Ok (self.old.references.base + 1 + place)) × (self.new ≡ self.old)) }
+        ensures known { KeepsNumber target self.old result self.new }
         ensures names { IfOk result (λ number. target_of self.new.references number ≡ Some target) }
         ensures orderly { IsOrderlyReferences self.new }
     {
@@ -107,7 +107,7 @@ impl References {
     /// again. At least so many must be live.
     pub fn back_to(&mut self, mark: Mark)
         requires { mark ≤ length self.old.references.live }
-        ensures back { self.new ≡ record self.old { references = back_to mark self.old.references } }
+        ensures back { self.new ≡ table_back_to mark self.old }
         ensures orderly { IsOrderlyReferences self.new }
     {
         self.live.truncate(mark.live);
@@ -115,7 +115,7 @@ impl References {
 
     /// Lets all die. Their numbers never come again.
     pub fn clear(&mut self)
-        ensures none { self.new ≡ record self.old { references = without_references self.old.references } }
+        ensures none { self.new ≡ table_without_references self.old }
         ensures orderly { IsOrderlyReferences self.new }
     {
         self.base += self.live.len() as u32;

@@ -1,7 +1,7 @@
 //! A map from sources to lists, stored as two maps.
 ghost use Rattle.std.specs.Prelude.{◌≡◌, ◌<◌, ◌≤◌, [], length, OnOk, OnErr, string_bytes};
 ghost use Rattle.dap_command.specs.declared.source_key.SourceKey.TheVariants.{Path, Reference};
-ghost use Rattle.dap_tables.specs.SourceMap.{set_of, count, of_others, with_set, HasNoEmptyList};
+ghost use Rattle.dap_tables.specs.SourceMap.{set_of, count, of_others, HasNoEmptyList, with_set_for};
 
 use dap_command::SourceKey;
 use std::alloc::{AllocError, Global};
@@ -117,7 +117,7 @@ impl<T: Drop> SourceMap<T> {
     /// # Errors
     /// `AllocError` where memory is refused. The map is then as it was.
     pub fn put(&mut self, source: SourceKey, set: Vec<T>) -> Result<(), AllocError>
-        ensures put { OnOk result (self.new ≡ with_set source set.items (of_others source self.old)) }
+        ensures put { OnOk result (self.new ≡ with_set_for source set.items self.old) }
         ensures err { OnErr result (self.new ≡ self.old) }
         ensures memory { OnErr result (0 < length set.items) }
     {

@@ -1,10 +1,15 @@
 -- A call of an end as a step, in every world of bytes with that end.
 -- Overview, "Base Protocol".
-use Rattle.std.specs.Prelude.{◌≡◌, ℕ, List, ◌++◌, drop, None, Ok}
-use Rattle.dap_adapter.specs.AdapterState.{AdapterState}
+use Rattle.std.specs.Prelude.{◌≡◌, ℕ, List, ◌++◌, drop, None, Ok, Vec}
+use Rattle.dap_adapter.specs.AdapterState.{AdapterState, state_of}
+use Rattle.dap_adapter.specs.Calls.{PollRefused, TakeRefused, TurnRefused}
+use Rattle.dap_plan.specs.declared.fault.AdapterFault.{AdapterFault}
+use Rattle.dap_adapter.specs.declared.taken.Taken.{Taken}
 use Rattle.dap_adapter.specs.declared.taken.Turned.{Turned}
 use Rattle.dap_adapter.specs.declared.taken.Turned.TheVariants.{Idle, Done}
 use Rattle.dap_client.specs.ClientState.{ClientState}
+use Rattle.dap_client.specs.declared.got.Got.{Got}
+use Rattle.dap_client.specs.declared.got.Sent.{Sent}
 use Rattle.dap_debuggee.specs.Shown.{Shown}
 use Rattle.dap_plan.specs.Carried.{Goes}
 use Rattle.dap_plan.specs.Handling.{turns}
@@ -28,3 +33,31 @@ AdapterStepsOver {D} shown follows old piece used bytes new = (w : ByteWorld D) 
 abbrev pub TurnSteps : {D : Type 0} → (D → Shown) → Goes D → AdapterState D → Turned → AdapterState D → Type 0
 TurnSteps shown follows old Idle new = (turns (shown old.debuggee) old.session ≡ Ok None) × (new ≡ old)
 TurnSteps shown follows old (Done bytes) new = AdapterSteps shown follows old bytes.items new
+
+-- ---- the same, of what a call gives
+
+abbrev pub SendSteps : {D : Type 0} → (D → Shown) → Goes D → ClientState → ClientState → Sent → Type 0
+SendSteps shown follows old new sent = ClientSteps shown follows old sent.bytes.items new
+
+abbrev pub AnswerSteps : {D A : Type 0} → (D → Shown) → Goes D → ClientState → ClientState → Vec ℕ A → Type 0
+AnswerSteps shown follows old new bytes = ClientSteps shown follows old bytes.items new
+
+abbrev pub TakeDownSteps : {D : Type 0} → (D → Shown) → Goes D → ClientState → List ℕ → ClientState → Got → Type 0
+TakeDownSteps shown follows old piece new got = ClientStepsOver shown follows old piece got.used got.bytes.items new
+
+abbrev pub TakeUpSteps : {D : Type 0} → (D → Shown) → Goes D → AdapterState D → List ℕ → AdapterState D → Taken → Type 0
+TakeUpSteps shown follows old piece new taken = AdapterStepsOver shown follows old piece taken.used taken.bytes.items new
+
+abbrev pub PollSteps : {D A : Type 0} → (D → Shown) → Goes D → AdapterState D → AdapterState D → Vec ℕ A → Type 0
+PollSteps shown follows old new bytes = AdapterSteps shown follows old bytes.items new
+
+-- ---- why an adapter that no fault has closed does not take a piece, make a turn or poll
+
+abbrev pub PieceNotTakenUp : {D : Type 0} → AdapterState D → List ℕ → AdapterState D → AdapterFault → Type 0
+PieceNotTakenUp old piece new fault = old.fault ≡ None → TakeRefused old.intake (state_of old) piece fault new.debuggee
+
+abbrev pub TurnNotMade : {D : Type 0} → (D → Shown) → AdapterState D → AdapterState D → AdapterFault → Type 0
+TurnNotMade shown old new fault = old.fault ≡ None → TurnRefused shown old fault new
+
+abbrev pub PollNotMade : {D : Type 0} → Goes D → AdapterState D → AdapterState D → AdapterFault → Type 0
+PollNotMade follows old new fault = old.fault ≡ None → PollRefused follows old fault new

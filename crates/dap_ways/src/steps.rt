@@ -1,14 +1,12 @@
 //! The steps of a world of bytes, each as the call that it is: a function makes it, and its contract says that it is a step,
 //! whatever is on the ways, or why it is refused. What else is to be known of a call stands with the call.
-ghost use Rattle.std.specs.Prelude.{◌≡◌, [], IfErr, IfOk, OnErr, IsTrue, None};
-ghost use Rattle.dap_adapter.specs.AdapterState.{state_of};
-ghost use Rattle.dap_adapter.specs.Calls.{PollRefused, TakeRefused, TurnRefused};
-ghost use Rattle.dap_client.specs.Calls.{NotAnswered, NotSent, TakeRefused as ClientTakeRefused};
+ghost use Rattle.std.specs.Prelude.{◌≡◌, [], IfErr, IfOk, OnErr, IsTrue};
+ghost use Rattle.dap_client.specs.Calls.{NotAnswered, NotSent, PieceNotTaken};
 ghost use Rattle.dap_client.specs.TerminalResponse.{is_plain_terminal};
 ghost use Rattle.dap_debuggee.specs.declared.answers.State.{State};
 ghost use Rattle.dap_call.specs.PlainCall.{is_plain_call};
 ghost use Rattle.dap_ways.specs.ByteWorld.{IsFreshAdapter, IsFreshClient};
-ghost use Rattle.dap_ways.specs.Steps.{AdapterSteps, AdapterStepsOver, ClientSteps, ClientStepsOver, TurnSteps};
+ghost use Rattle.dap_ways.specs.Steps.{AdapterSteps, TurnSteps, SendSteps, AnswerSteps, TakeDownSteps, TakeUpSteps, PollSteps, PieceNotTakenUp, TurnNotMade, PollNotMade};
 
 use dap_adapter::{Adapter, AdapterFault, Taken, Turned};
 use dap_call::Call;
@@ -39,7 +37,7 @@ pub fn open_adapter<D: Debuggee + Drop>(
 /// [`Client::send`]. Where it is refused nothing has changed.
 pub fn send<D: Debuggee>(client: &mut Client, alloc: Global, call: &Call) -> Result<Sent, SendFault>
     requires plain { IsTrue (is_plain_call call.now) }
-    ensures step { IfOk result (λ sent. ClientSteps D.shown D.follows client.old sent.bytes.items client.new) }
+    ensures step { IfOk result (SendSteps D.shown D.follows client.old client.new) }
     ensures refused { IfErr result (λ fault. NotSent fault call.now client.old) }
     ensures unchanged { OnErr result (client.new ≡ client.old) }
 {
@@ -54,7 +52,7 @@ pub fn answer<D: Debuggee>(
     terminal: Terminal,
 ) -> Result<Vec<u8>, AnswerFault>
     requires plain { IsTrue (is_plain_terminal terminal) }
-    ensures step { IfOk result (λ bytes. ClientSteps D.shown D.follows client.old bytes.items client.new) }
+    ensures step { IfOk result (AnswerSteps D.shown D.follows client.old client.new) }
     ensures refused { IfErr result (λ fault. NotAnswered fault request_seq client.old) }
     ensures unchanged { OnErr result (client.new ≡ client.old) }
 {
@@ -67,8 +65,8 @@ pub fn take_down<D: Debuggee>(
     alloc: Global,
     piece: &[u8],
 ) -> Result<Got, ClientFault>
-    ensures step { IfOk result (λ got. ClientStepsOver D.shown D.follows client.old piece.now got.used got.bytes.items client.new) }
-    ensures refused { IfErr result (λ fault. client.old.fault ≡ None → ClientTakeRefused client.old.intake client.old.session piece.now fault) }
+    ensures step { IfOk result (TakeDownSteps D.shown D.follows client.old piece.now client.new) }
+    ensures refused { IfErr result (PieceNotTaken client.old piece.now) }
 {
     client.take(alloc, piece)
 }
@@ -79,8 +77,8 @@ pub fn take_up<D: Debuggee + Drop>(
     alloc: Global,
     piece: &[u8],
 ) -> Result<Taken, AdapterFault>
-    ensures step { IfOk result (λ taken. AdapterStepsOver D.shown D.follows adapter.old piece.now taken.used taken.bytes.items adapter.new) }
-    ensures refused { IfErr result (λ fault. adapter.old.fault ≡ None → TakeRefused adapter.old.intake (state_of adapter.old) piece.now fault adapter.new.debuggee) }
+    ensures step { IfOk result (TakeUpSteps D.shown D.follows adapter.old piece.now adapter.new) }
+    ensures refused { IfErr result (PieceNotTakenUp adapter.old piece.now adapter.new) }
 {
     adapter.take(alloc, piece)
 }
@@ -90,8 +88,8 @@ pub fn turn<D: Debuggee + Drop>(
     adapter: &mut Adapter<D>,
     alloc: Global,
 ) -> Result<Turned, AdapterFault>
-    ensures step { IfOk result (λ turned. TurnSteps D.shown D.follows adapter.old turned adapter.new) }
-    ensures refused { IfErr result (λ fault. adapter.old.fault ≡ None → TurnRefused D.shown adapter.old fault adapter.new) }
+    ensures step { IfOk result (λ t. TurnSteps D.shown D.follows adapter.old t adapter.new) }
+    ensures refused { IfErr result (TurnNotMade D.shown adapter.old adapter.new) }
 {
     adapter.turn(alloc)
 }
@@ -101,8 +99,8 @@ pub fn poll<D: Debuggee + Drop>(
     adapter: &mut Adapter<D>,
     alloc: Global,
 ) -> Result<Vec<u8>, AdapterFault>
-    ensures step { IfOk result (λ bytes. AdapterSteps D.shown D.follows adapter.old bytes.items adapter.new) }
-    ensures refused { IfErr result (λ fault. adapter.old.fault ≡ None → PollRefused D.follows adapter.old fault adapter.new) }
+    ensures step { IfOk result (PollSteps D.shown D.follows adapter.old adapter.new) }
+    ensures refused { IfErr result (PollNotMade D.follows adapter.old adapter.new) }
 {
     adapter.poll(alloc)
 }

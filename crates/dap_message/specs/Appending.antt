@@ -1,0 +1,48 @@
+-- Texts of messages that are appended to a buffer, and that each of them is read again.
+use Rattle.std.specs.Prelude.{◌≡◌, ◌≤◌, ◌++◌, ℕ, List, length, Option, Vec}
+use Rattle.serde_json.specs.Data.{Data}
+use Rattle.dap_json.specs.Field.{max_seq}
+use Rattle.dap_body.specs.Body.{data_in, event_data_in}
+use Rattle.dap_body.specs.declared.body.Body.{Body}
+use Rattle.dap_body.specs.declared.event.EventBody.{EventBody}
+use Rattle.dap_body.specs.declared.failure.Failure.{Failure}
+use Rattle.dap_envelope.specs.Canon.{canon}
+use Rattle.dap_envelope.specs.Meaning.{Msg}
+use Rattle.dap_envelope.specs.Refusals.{max_command}
+use Rattle.dap_envelope.specs.declared.message.Message.{Message}
+use Rattle.dap_message.specs.MessageParts.{request_message, failure_response, success_response, event_message}
+
+-- the canonical text of a message is behind what was there
+abbrev pub AddsText : {A : Type 0} → Message → Vec ℕ A → Vec ℕ A → Type 0
+AddsText m old new = new.items ≡ old.items ++ canon m
+
+abbrev pub AddsFailure : {A : Type 0} → ℕ → ℕ → List ℕ → Failure → Vec ℕ A → Vec ℕ A → Type 0
+AddsFailure seq request_seq command failure old new = AddsText (failure_response seq request_seq command failure) old new
+
+abbrev pub AddsAnswer : {A : Type 0} → ℕ → ℕ → List ℕ → Option Body → Vec ℕ A → Vec ℕ A → Type 0
+AddsAnswer seq request_seq command body old new = AddsText (success_response seq request_seq command (data_in body)) old new
+
+abbrev pub AddsEvent : {A : Type 0} → ℕ → List ℕ → Option EventBody → Vec ℕ A → Vec ℕ A → Type 0
+AddsEvent seq event body old new = AddsText (event_message seq event (event_data_in body)) old new
+
+abbrev pub AddsRequest : {A : Type 0} → ℕ → List ℕ → Option Data → Vec ℕ A → Vec ℕ A → Type 0
+AddsRequest seq command arguments old new = AddsText (request_message seq command arguments) old new
+
+-- the text of a message is read as that message
+abbrev pub CanonIsRead : Message → Type 0
+CanonIsRead m = Msg (canon m) m
+
+-- where its numbers are in their range, and its command is no longer than one may be
+abbrev pub FailureReadsBack : ℕ → ℕ → List ℕ → Failure → Type 0
+FailureReadsBack seq request_seq command failure =
+    seq ≤ max_seq → request_seq ≤ max_seq → length command ≤ max_command → CanonIsRead (failure_response seq request_seq command failure)
+
+abbrev pub AnswerReadsBack : ℕ → ℕ → List ℕ → Option Body → Type 0
+AnswerReadsBack seq request_seq command body =
+    seq ≤ max_seq → request_seq ≤ max_seq → length command ≤ max_command → CanonIsRead (success_response seq request_seq command (data_in body))
+
+abbrev pub EventReadsBack : ℕ → List ℕ → Option EventBody → Type 0
+EventReadsBack seq event body = seq ≤ max_seq → CanonIsRead (event_message seq event (event_data_in body))
+
+abbrev pub RequestReadsBack : ℕ → List ℕ → Option Data → Type 0
+RequestReadsBack seq command arguments = seq ≤ max_seq → length command ≤ max_command → CanonIsRead (request_message seq command arguments)
