@@ -1,5 +1,5 @@
 -- Worked examples, each shown by computation.
-use Rattle.std.proofs.Common.{◌≡◌, length, replicate, codes, true, false, Some, None, pos, negsuc, refl, sym, true≢false, arith}
+use Rattle.std.proofs.Common.{[], ◌≡◌, length, replicate, codes, true, false, Some, None, pos, negsuc, refl, sym, true≢false, arith}
 use Rattle.std.specs.Fmt.{digits}
 use Rattle.json.specs.Print.{escape_byte}
 use Rattle.dap_json.specs.Field.{max_seq}
