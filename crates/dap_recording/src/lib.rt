@@ -19,6 +19,7 @@ pub mod shown;
 mod snapshot;
 mod sources;
 mod texts;
+pub mod variables;
 
 pub use dap_json::List;
 pub use reading::{RecordingFault, RecordingKey};
