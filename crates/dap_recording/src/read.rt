@@ -46,14 +46,15 @@ impl Sources {
     pub fn of_file(texts: &mut Texts, bytes: &[u8]) -> Result<Sources, RecordingFault>
         ensures { IsVerdict result (file_sources (json_of bytes.now)) }
     {
-        let value = match dap_json::parse(texts.alloc, bytes) {
-            Ok(value) => value,
+        let file = match dap_json::parse(texts.alloc, bytes) {
+            Ok(file) => file,
             Err(ParseFault::NotJson) => return Err(RecordingFault::NotJson),
             Err(ParseFault::OutOfMemory) => return Err(RecordingFault::OutOfMemory),
         };
-        if !value.is_object() {
-            return Err(RecordingFault::NotObject);
+        if file.is_object() {
+            rows::sources_at(texts, &file)
+        } else {
+            Err(RecordingFault::NotObject)
         }
-        rows::sources_at(texts, &value)
     }
 }
