@@ -81,7 +81,7 @@ const RECORDED: &str =
 
 /// Whether its sources, and once more those behind them, are shown so.
 fn are_sources(alloc: Global, sources: &Sources) -> bool {
-    if sources.len() != 1 {
+    if sources.len() != 1 || !sources.has_room(sources) {
         return false;
     }
     let Ok(two) = sources.with(alloc, sources) else {
