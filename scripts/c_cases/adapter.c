@@ -2,9 +2,7 @@
  * a value that is set, an exit; what a host says out of turn; and each allocation refused in turn, as in refused.c. */
 #include "refusing.h"
 
-static const char BASE[] =
-    "{\"exit\":0,\"sources\":[{\"name\":\"a.c\",\"path\":\"/w/a.c\",\"text\":\"1\\n2\\n3\\n4\\n\"}],"
-    "\"moments\":[{\"threads\":[{\"id\":1,\"name\":\"-\",\"frames\":[{\"name\":\"-\",\"source\":0,\"line\":1}]}],\"thread\":1}]}";
+static const char BASE[] = "{\"sources\":[{\"name\":\"a.c\",\"path\":\"/w/a.c\",\"text\":\"1\\n2\\n3\\n4\\n\"}]}";
 static const char SHOWS[] =
     "{\"exit\":0,\"sources\":[{\"name\":\"a.c\",\"path\":\"/w/a.c\",\"text\":\"1\\n2\\n3\\n4\\n\"}],"
     "\"moments\":[{\"threads\":[{\"id\":7,\"name\":\"main\",\"frames\":[{\"name\":\"f\",\"source\":0,\"line\":3,"
@@ -92,6 +90,8 @@ static int stops(void) {
         code = yt_adapter_stopped(&adapter, BYTES("entry"), 7, BYTES(SHOWS), true, &found);
     if (!told(code)) return 0;
     CHECK(has("\"event\":\"stopped\"") && has("\"reason\":\"entry\""));
+    if (!told(yt_adapter_sources(&adapter, BYTES(BASE), &found))) return 0;
+    CHECK(found.bytes == 0);
     CHECK(yt_adapter_state(&adapter, &seen) == YT_OK && seen.phase == 6 && seen.breakpoints == 2 && seen.kept == 0 && seen.asked == 0);
     if (!hear("{\"seq\":5,\"type\":\"request\",\"command\":\"stackTrace\",\"arguments\":{\"threadId\":7}}")) return 0;
     CHECK(has("\"name\":\"f\""));
@@ -171,7 +171,10 @@ static void nothing_is_held(void) {
     CHECK(yt_adapter_name(&adapter, out, 1) == YT_NONE && yt_adapter_value(&adapter, out, 1) == YT_NONE);
     CHECK(yt_adapter_state(&adapter, &seen) == YT_NONE && yt_adapter_target(&adapter, 1, &target) == YT_NONE);
     yt_adapter_free(&adapter);
+    CHECK(yt_adapter_open(&adapter, &limits, BYTES("{\"sources\":[{}]}")) == YT_BAD_RECORDING);
+    CHECK(yt_adapter_open(&adapter, &limits, BYTES(SHOWS)) == YT_OK); /* a whole recording */
     CHECK(yt_adapter_open(&adapter, &limits, BYTES(BASE)) == YT_OK);
+    CHECK(yt_adapter_stopped(&adapter, BYTES("x"), 1, BYTES(BASE), false, &found) == YT_BAD_RECORDING);
     CHECK(yt_adapter_output(&adapter, 9, BYTES("x"), &found) == YT_BAD_ARGUMENTS && yt_adapter_output(&adapter, 1, BYTES("\xff"), &found) == YT_BAD_ARGUMENTS);
     CHECK(yt_adapter_stopped(&adapter, BYTES("x"), 1, BYTES("[]"), false, &found) == YT_BAD_RECORDING);
     CHECK(yt_adapter_take(&adapter, BYTES("Content-Length: 2\r\n\r\n[]"), &found) == YT_BODY && found.at == 0 && found.cause == 2);

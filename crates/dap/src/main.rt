@@ -475,9 +475,7 @@ fn sources_line(alloc: Global, name: &str, key: &str) -> Result<Vec<u8>, AllocEr
     line.extend_from_slice(name.as_bytes())?;
     line.extend_from_slice(b": the key ")?;
     line.extend_from_slice(key.as_bytes())?;
-    line.extend_from_slice(
-        b" is refused: there are sources, each with a name and a text, and the first has a line\n",
-    )?;
+    line.extend_from_slice(b" is refused: there are sources, each with a name and a text\n")?;
     Ok(line)
 }
 

@@ -1,14 +1,16 @@
 -- What the exports of an adapter do, in the words of dap_adapter, over the adapter behind the handle and a debuggee that the
 -- host feeds.
-use Rattle.std.specs.Prelude.{◌≡◌, ◌⊎◌, ℕ, zero, suc, ℤ, List, [], ◌++◌, length, take, Bool, false, Option, Some, None, Result, Ok, Err, is_some, if◌then◌else◌}
+use Rattle.std.specs.Prelude.{◌≡◌, ◌⊎◌, ℕ, zero, suc, ℤ, List, [], ◌++◌, length, take, Bool, false, Option, Some, None, Result, Ok, Err, is_some, option_map, if◌then◌else◌}
 use Rattle.dap_debuggee.specs.declared.answers.Category.{Category}
 use Rattle.dap_debuggee.specs.declared.answers.Category.TheVariants.{Console, Stdout, Stderr}
 use Rattle.dap_debuggee.specs.declared.answers.Variable.{Variable}
 use Rattle.dap_envelope.specs.declared.message.Message.{Message}
+use Rattle.std.specs.List.{slice_get}
 use Rattle.serde_json.specs.Data.{Data}
 use Rattle.dap_recording.specs.declared.recording.Recording.{Recording}
-use Rattle.dap_recording.specs.Reading.{verdict_of}
-use Rattle.dap_replay.specs.Played.{fresh_played}
+use Rattle.dap_recording.specs.declared.recording.RecordedSource.{RecordedSource}
+use Rattle.dap_recording.specs.Reading.{verdict_of, file_sources}
+use Rattle.dap_recording.specs.Snapshot.{MomentAlone, alone_in}
 use Rattle.dap_live.specs.declared.mail.Coming.{Coming}
 use Rattle.dap_live.specs.declared.mail.Coming.TheVariants as said
 use Rattle.dap_live.specs.declared.mail.Dropped.{Dropped}
@@ -26,11 +28,15 @@ use Rattle.dap_c_adapter.specs.AdapterFaults.{adapter_number, IsAdapterFaultFoun
 use Rattle.dap_c_parts.specs.declared.found.YtFound.{YtFound}
 use Rattle.dap_c_adapter.specs.declared.held_adapter.HeldAdapter.{HeldAdapter}
 
--- the debuggee of an adapter that was opened over a recording: not started, with nothing told
+-- the debuggee of an adapter that was opened over the sources of a file: not started, with nothing told
 pub record IsOpenedOver (json : Option Data) (debuggee : LiveState) : Type 0 where
-  pub recording : Recording
-  pub read : verdict_of json ≡ Ok recording
-  pub is : debuggee ≡ fresh_live (fresh_played recording)
+  pub sources : List RecordedSource
+  pub read : file_sources json ≡ Ok sources
+  pub is : debuggee ≡ fresh_live sources
+
+-- these bytes, read as JSON, are no file of sources
+abbrev pub HasNoSources : Option Data → Type 0
+HasNoSources json = (sources : List RecordedSource) → file_sources json ≡ Ok sources → ⊥
 
 -- these bytes, read as JSON, are no recording
 abbrev pub IsNoRecording : Option Data → Type 0
@@ -162,16 +168,23 @@ category_of zero = Console
 category_of (suc zero) = Stdout
 category_of (suc (suc n)) = Stderr
 
--- a stop at the first moment of a recording
-pub record IsStop (reason : List ℕ) (thread : ℤ) (shows : Option Data) (later : Bool) (told : Coming) : Type 0 where
-  pub recording : Recording
-  pub read : verdict_of shows ≡ Ok recording
-  pub is : told ≡ said.Stopped reason thread (fresh_played recording) later
-
-pub record AreSources (json : Option Data) (told : Coming) : Type 0 where
+-- the first moment of a recording, by itself
+pub record IsFirstOf (json : Option Data) (moment : MomentAlone) : Type 0 where
   pub recording : Recording
   pub read : verdict_of json ≡ Ok recording
-  pub is : told ≡ said.Sources (fresh_played recording)
+  pub first : option_map (alone_in recording) (slice_get recording.moments 0) ≡ Some moment
+
+-- a stop at the first moment of a recording
+pub record IsStop (reason : List ℕ) (thread : ℤ) (shows : Option Data) (later : Bool) (told : Coming) : Type 0 where
+  pub moment : MomentAlone
+  pub first : IsFirstOf shows moment
+  pub is : told ≡ said.Stopped reason thread moment later
+
+-- the sources of a file
+pub record AreSources (json : Option Data) (told : Coming) : Type 0 where
+  pub sources : List RecordedSource
+  pub read : file_sources json ≡ Ok sources
+  pub is : told ≡ said.Sources sources
 
 -- what a host says, as it was read, is told, or the adapter is as it was
 abbrev pub Tells : Result Coming ℕ → HeldAdapter → HeldAdapter → ℕ → YtFound → Type 0

@@ -12,7 +12,7 @@ ghost use Rattle.dap_plan.specs.Session.{fresh_session, oldest};
 ghost use Rattle.dap_plan.specs.declared.fault.AdapterFault.{AdapterFault as TheFault};
 ghost use Rattle.dap_adapter.specs.StandsFor.{StandsFor};
 ghost use Rattle.dap_live.specs.LiveShown.{fresh_live};
-ghost use Rattle.dap_c_adapter.specs.AdapterCalls.{AdapterTakes, RefusesAdapterPiece, IsAdapterAsBefore, AdapterTurns, RefusesTurn, frame_so_far, IsCodeOfOpen, IsOpenedOver, IsNoRecording, HasNothing, KeepsActs};
+ghost use Rattle.dap_c_adapter.specs.AdapterCalls.{AdapterTakes, RefusesAdapterPiece, IsAdapterAsBefore, AdapterTurns, RefusesTurn, frame_so_far, IsCodeOfOpen, IsOpenedOver, HasNoSources, HasNothing, KeepsActs};
 ghost use Rattle.dap_c_adapter.specs.AdapterFaults.{adapter_number, IsAdapterFaultFound};
 ghost use Rattle.dap_c_parts.specs.Behind.{FromTo};
 ghost use Rattle.dap_c_parts.specs.Finds.{FindsNothing};
@@ -20,7 +20,7 @@ ghost use Rattle.dap_c_parts.specs.Limited.{settings_of};
 
 use crate::adapter_handle::YtAdapter;
 use crate::held_adapter::HeldAdapter;
-use crate::telling::recording_given;
+use crate::telling::sources_given;
 use dap_adapter::{Adapter, AdapterFault, Taken, Turned};
 use dap_c_parts::causes::{body_cause, cause_of};
 use dap_c_parts::codes::*;
@@ -29,18 +29,18 @@ use dap_c_parts::found::{YtFound, fault_at, nothing_found};
 use dap_c_parts::limits::{self, YtLimits};
 use dap_frame::Limits;
 use dap_live::Live;
-use dap_replay::Recorded;
+use dap_recording::Sources;
 use dap_slot::{handle_of, take_out};
 use std::alloc::Global;
 
 /// The adapter over a debuggee with these sources.
-fn adapter_over(alloc: Global, limits: Limits, base: Recorded) -> Option<Adapter<Live>>
+fn adapter_over(alloc: Global, limits: Limits, sources: Sources) -> Option<Adapter<Live>>
     ensures session { IfSome result (λ a. a.session ≡ fresh_session limits) }
     ensures fault { IfSome result (λ a. a.fault ≡ None) }
-    ensures debuggee { IfSome result (λ a. a.debuggee ≡ fresh_live base) }
+    ensures debuggee { IfSome result (λ a. a.debuggee ≡ fresh_live sources) }
     ensures stands { IfSome result (λ a. StandsFor a [] []) }
 {
-    match Adapter::open(alloc, limits, Live::open(alloc, base)) {
+    match Adapter::open(alloc, limits, Live::open(alloc, sources)) {
         Ok(adapter) => Some(adapter),
         Err(_) => None,
     }
@@ -55,14 +55,14 @@ fn opened(alloc: Global, limits: &YtLimits, base: &[u8]) -> Result<Box<HeldAdapt
     ensures in_range { OnOk result (first_outside (settings_of limits.now) ≡ None) }
     ensures refused { IfErr result (λ code. code ≡ YT_BAD_LIMITS → IsSome (first_outside (settings_of limits.now))) }
     ensures out_of_range { IfErr result (λ code. IsSome (first_outside (settings_of limits.now)) → code ≡ YT_BAD_LIMITS) }
-    ensures no_recording { IfErr result (λ code. code ≡ YT_BAD_RECORDING → IsNoRecording (json_of base.now)) }
+    ensures no_recording { IfErr result (λ code. code ≡ YT_BAD_RECORDING → HasNoSources (json_of base.now)) }
     ensures code { IfErr result IsCodeOfOpen }
 {
     let Ok(limits) = limits::read(limits) else {
         return Err(YT_BAD_LIMITS);
     };
-    let base = recording_given(alloc, base)?;
-    let Some(adapter) = adapter_over(alloc, limits, base) else {
+    let sources = sources_given(alloc, base)?;
+    let Some(adapter) = adapter_over(alloc, limits, sources) else {
         return Err(YT_NO_MEMORY);
     };
     boxed(alloc, adapter)
@@ -88,8 +88,9 @@ fn boxed(alloc: Global, adapter: Adapter<Live>) -> Result<Box<HeldAdapter>, u32>
     }
 }
 
-/// Opens an adapter, and lets go what the handle held. `base` is a recording (docs/RECORDINGS.md) whose sources are the
-/// debuggee's; its moments do not matter. Where it answers other than `YT_OK`, the handle holds none.
+/// Opens an adapter, and lets go what the handle held. `base` is a JSON object with the `sources` of a recording
+/// (docs/RECORDINGS.md), which are the debuggee's; what else it has does not matter, so a recording will do. Where it answers
+/// other than `YT_OK`, the handle holds none.
 #[unsafe(no_mangle)]
 pub extern "C" fn yt_adapter_open(
     alloc: Global,
@@ -107,7 +108,7 @@ pub extern "C" fn yt_adapter_open(
     ensures refused { result ≡ YT_BAD_LIMITS → IsSome (first_outside (settings_of limits.now)) }
     ensures out_of_range { IsSome (first_outside (settings_of limits.now)) → result ≡ YT_BAD_LIMITS }
     ensures in_range { result ≡ YT_OK → first_outside (settings_of limits.now) ≡ None }
-    ensures no_recording { result ≡ YT_BAD_RECORDING → IsNoRecording (json_of base.now) }
+    ensures no_recording { result ≡ YT_BAD_RECORDING → HasNoSources (json_of base.now) }
     ensures codes { (result ≡ YT_OK → ⊥) → IsCodeOfOpen result }
 {
     take_out(alloc, adapter);

@@ -5,11 +5,10 @@
 //! the handle and what the caller lends for an answer are touched.
 ghost use Rattle.std.specs.Prelude.{◌≡◌, ◌⊎◌, ◌≤◌, ◌++◌, ◌∷◌, IfOk, IfErr, IfSome, IsSome, IsOk, IsUtf8, Some, None, Ok, Err, false, [], length, if◌then◌else◌};
 ghost use Rattle.dap_json.specs.Read.{json_of};
-ghost use Rattle.dap_recording.specs.Reading.{verdict_of};
-ghost use Rattle.dap_replay.specs.Played.{fresh_played};
+ghost use Rattle.dap_recording.specs.Reading.{file_sources};
 ghost use Rattle.dap_plan.specs.Polling.{has_debuggee};
 ghost use Rattle.dap_plan.specs.declared.fault.AdapterFault.{AdapterFault as TheFault};
-ghost use Rattle.dap_c_adapter.specs.AdapterCalls.{AdapterSaw, RefusesPoll, Tells, IsStop, AreSources, IsCodeOfText, IsCodeOfRecording, IsToldCode, IsNoRecording, KeepsActs, category_of, mail_number, variable_told};
+ghost use Rattle.dap_c_adapter.specs.AdapterCalls.{AdapterSaw, RefusesPoll, Tells, IsStop, AreSources, IsCodeOfText, IsCodeOfRecording, IsToldCode, IsNoRecording, HasNoSources, IsFirstOf, KeepsActs, category_of, mail_number, variable_told};
 ghost use Rattle.dap_c_adapter.specs.AdapterFaults.{adapter_number, IsAdapterFaultFound};
 ghost use Rattle.dap_live.specs.declared.mail.Coming.TheVariants as said;
 ghost use Rattle.dap_c_parts.specs.Behind.{FromTo};
@@ -22,8 +21,7 @@ use dap_c_parts::found::YtFound;
 use dap_debuggee::{Category, Variable};
 use dap_json::{List, Text};
 use dap_live::{Coming, Dropped, Mail};
-use dap_recording::RecordingFault;
-use dap_replay::Recorded;
+use dap_recording::{Recording, RecordingFault, Snapshot, Sources, Texts};
 use dap_slot::{handle_of, take_out};
 use std::alloc::Global;
 
@@ -148,15 +146,40 @@ fn text_given(alloc: Global, bytes: &[u8]) -> Result<Text, u32>
     }
 }
 
-pub(crate) fn recording_given(alloc: Global, bytes: &[u8]) -> Result<Recorded, u32>
-    ensures read { IfOk result (λ r. (verdict_of (json_of bytes.now) ≡ Ok r.recording) × (r ≡ fresh_played r.recording)) }
+/// The first moment of a recording.
+fn moment_given(alloc: Global, bytes: &[u8]) -> Result<Snapshot, u32>
+    ensures read { IfOk result (IsFirstOf (json_of bytes.now)) }
     ensures no_recording { IfErr result (λ code. code ≡ YT_BAD_RECORDING → IsNoRecording (json_of bytes.now)) }
     ensures code { IfErr result IsCodeOfRecording }
 {
-    match Recorded::read(alloc, bytes) {
-        Ok(recorded) => Ok(recorded),
+    match Recording::read(alloc, bytes) {
+        Ok(recording) => Ok(Snapshot::first_of(recording)),
         Err(RecordingFault::OutOfMemory) => Err(YT_NO_MEMORY),
         Err(_) => Err(YT_BAD_RECORDING),
+    }
+}
+
+fn sources_in(texts: &mut Texts, bytes: &[u8]) -> Result<Sources, u32>
+    ensures read { IfOk result (λ sources. file_sources (json_of bytes.now) ≡ Ok sources) }
+    ensures no_recording { IfErr result (λ code. code ≡ YT_BAD_RECORDING → HasNoSources (json_of bytes.now)) }
+    ensures code { IfErr result IsCodeOfRecording }
+{
+    match Sources::of_file(texts, bytes) {
+        Ok(sources) => Ok(sources),
+        Err(RecordingFault::OutOfMemory) => Err(YT_NO_MEMORY),
+        Err(_) => Err(YT_BAD_RECORDING),
+    }
+}
+
+/// The sources of a file.
+pub(crate) fn sources_given(alloc: Global, bytes: &[u8]) -> Result<Sources, u32>
+    ensures read { IfOk result (λ sources. file_sources (json_of bytes.now) ≡ Ok sources) }
+    ensures no_recording { IfErr result (λ code. code ≡ YT_BAD_RECORDING → HasNoSources (json_of bytes.now)) }
+    ensures code { IfErr result IsCodeOfRecording }
+{
+    match Texts::new(alloc, bytes.len()) {
+        Ok(mut texts) => sources_in(&mut texts, bytes),
+        Err(_) => Err(YT_NO_MEMORY),
     }
 }
 
@@ -188,7 +211,7 @@ fn stop_given(
     ensures code { IfErr result IsCodeOfText }
 {
     let reason = text_given(alloc, reason)?;
-    let shows = recording_given(alloc, shows)?;
+    let shows = moment_given(alloc, shows)?;
     Ok(Coming::Stopped {
         reason,
         thread,
@@ -470,16 +493,17 @@ pub extern "C" fn yt_adapter_variables(
     code
 }
 
-fn sources_given(alloc: Global, sources: &[u8]) -> Result<Coming, u32>
+fn more_given(alloc: Global, sources: &[u8]) -> Result<Coming, u32>
     ensures said { IfOk result (AreSources (json_of sources.now)) }
-    ensures no_recording { IfErr result (λ code. code ≡ YT_BAD_RECORDING → IsNoRecording (json_of sources.now)) }
+    ensures no_recording { IfErr result (λ code. code ≡ YT_BAD_RECORDING → HasNoSources (json_of sources.now)) }
     ensures code { IfErr result IsCodeOfRecording }
 {
-    let sources = recording_given(alloc, sources)?;
+    let sources = sources_given(alloc, sources)?;
     Ok(Coming::Sources(sources))
 }
 
-/// Tells of more sources: those of a recording (docs/RECORDINGS.md) come behind those there are. Its moments do not matter.
+/// Tells of more sources: those of a JSON object (docs/RECORDINGS.md) come behind those there are. What else it has does not
+/// matter.
 #[unsafe(no_mangle)]
 pub extern "C" fn yt_adapter_sources(
     alloc: Global,
@@ -494,11 +518,11 @@ pub extern "C" fn yt_adapter_sources(
     ensures apart { FromTo adapter.old.inner.value adapter.new.inner.value (λ a b. a.adapter.fault ≡ None → has_debuggee a.adapter.session.phase ≡ false → b.adapter.fault ≡ None) }
     ensures length { FromTo adapter.old.inner.value adapter.new.inner.value (λ a b. found.new.bytes ≡ length b.bytes.items) }
     ensures wanted { result ≡ YT_BAD_ARGUMENTS → ⊥ }
-    ensures no_recording { result ≡ YT_BAD_RECORDING → IsNoRecording (json_of sources.now) }
+    ensures no_recording { result ≡ YT_BAD_RECORDING → HasNoSources (json_of sources.now) }
     ensures limits { FromTo adapter.old.inner.value adapter.new.inner.value (λ a b. b.adapter.session.limits ≡ a.adapter.session.limits) }
     ensures frame { FromTo adapter.old.inner.value adapter.new.inner.value (λ a b. (b.frame ≡ a.frame) × (b.whole ≡ a.whole)) }
     ensures acts { FromTo adapter.old.inner.value adapter.new.inner.value (λ a b. KeepsActs a b) }
     ensures gathered { FromTo adapter.old.inner.value adapter.new.inner.value (λ a b. b.variables ≡ a.variables) }
 {
-    tell_handle(alloc, adapter, sources_given(alloc, sources), found)
+    tell_handle(alloc, adapter, more_given(alloc, sources), found)
 }

@@ -16,7 +16,6 @@ use Rattle.dap_live.specs.MailState.{no_mail, with_coming}
 use Rattle.dap_envelope.specs.declared.message.Message.{Message}
 use Rattle.dap_outbox.specs.Draft.{bytes_of}
 use Rattle.dap_recording.specs.declared.recording.RecordedSource.{RecordedSource}
-use Rattle.dap_replay.specs.Played.{Played}
 use Rattle.dap_plan.specs.Polling.{has_debuggee}
 use Rattle.dap_plan.specs.Session.{Session, fresh_session}
 use Rattle.dap_plan.specs.declared.fault.AdapterFault.{AdapterFault}
@@ -63,8 +62,8 @@ goes_fetched h k there laws going session limits at fetched =
     goes h k going (ap (λ (a : AdapterState LiveState). a.session.limits) fetched ∙ session) limits now (ap (λ (a : AdapterState LiveState). a.debuggee.mail) fetched)
 
 -- a host to which no line came
-pub fresh_going : (h : HostState) (limits : Settings) (base : Played) → StandsFor h.adapter [] [] → h.adapter.session ≡ fresh_session limits → h.adapter.debuggee ≡ fresh_live base → h.limits ≡ limits → AreInRange limits → Laws → IsGoing h
-fresh_going h limits base stands session debuggee same range laws =
+pub fresh_going : (h : HostState) (limits : Settings) (sources : List RecordedSource) → StandsFor h.adapter [] [] → h.adapter.session ≡ fresh_session limits → h.adapter.debuggee ≡ fresh_live sources → h.limits ≡ limits → AreInRange limits → Laws → IsGoing h
+fresh_going h limits sources stands session debuggee same range laws =
     let are : h.adapter.session.limits ≡ limits = ap (λ (s : Session). s.limits) session in
     let at = laws.fresh h.adapter (subst AreInRange (sym are) range) stands in
     record { used = at.used; history = at.history; stands = at.stands; none_held = at.none_held; limits_are = are ∙ sym same; fetched = ap (λ (v : LiveState). v.mail) debuggee }

@@ -3,7 +3,6 @@ use Rattle.std.proofs.Common.{◌≡◌, List, Option, Some, None, sym, ap, subs
 use Rattle.dap_live.specs.declared.mail.Coming.{Coming}
 use Rattle.dap_live.specs.declared.mail.Dropped.{Dropped}
 use Rattle.dap_recording.specs.declared.recording.RecordedSource.{RecordedSource}
-use Rattle.dap_replay.specs.Played.{Played}
 use Rattle.dap_host.specs.Hearing.{HostState, IsGoing, kept}
 use Rattle.dap_line.specs.Moments.{sources_after}
 use Rattle.dap_host.specs.PrivateKeeping.{AreAll, keeps_all}
@@ -18,13 +17,13 @@ going_with h sources going = record {
   fetched = going.fetched;
 }
 
-pub keeps_going : (dropped : Option Dropped) (all : Option Played) (h k : HostState) → k ≡ keeps_all dropped all h → IsGoing h → IsGoing k
-keeps_going None (Some all) h k is going = subst IsGoing (sym is) (going_with h all.recording.sources going)
+pub keeps_going : (dropped : Option Dropped) (all : Option (List RecordedSource)) (h k : HostState) → k ≡ keeps_all dropped all h → IsGoing h → IsGoing k
+keeps_going None (Some all) h k is going = subst IsGoing (sym is) (going_with h all going)
 keeps_going None None h k is going = subst IsGoing (sym is) going
 keeps_going (Some why) all h k is going = subst IsGoing (sym is) going
 
 -- what is held until then is what is kept
-pub all_kept : (dropped : Option Dropped) (all : Option Played) (c : Coming) (h k : HostState) (sources : List RecordedSource) → h.sources ≡ sources → AreAll c sources all → k ≡ keeps_all dropped all h → k ≡ kept dropped c h
+pub all_kept : (dropped : Option Dropped) (all : Option (List RecordedSource)) (c : Coming) (h k : HostState) (sources : List RecordedSource) → h.sources ≡ sources → AreAll c sources all → k ≡ keeps_all dropped all h → k ≡ kept dropped c h
 all_kept None (Some all) c h k sources same are is = is ∙ ap (λ (xs : List RecordedSource). record h { sources = xs }) (are ∙ ap (sources_after c) (sym same))
 all_kept None None c h k sources same are is = is ∙ ap (λ (xs : List RecordedSource). record h { sources = xs }) (same ∙ sym are ∙ ap (sources_after c) (sym same))
 all_kept (Some why) all c h k sources same are is = is

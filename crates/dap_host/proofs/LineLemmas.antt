@@ -1,14 +1,10 @@
 -- A line is counted, and heard by its mark.
-use Rattle.std.proofs.Common.{◌≡◌, ◌≢◌, ℕ, ◌+◌, ◌<◌, Bool, true, false, List, [], ◌∷◌, ◌++◌, length, refl, sym, ap, ◌∙◌, subst, arith, inr, Err}
+use Rattle.std.proofs.Common.{◌≡◌, ℕ, ◌+◌, ◌<◌, Bool, true, false, List, [], ◌∷◌, ◌++◌, length, refl, sym, ap, ◌∙◌, subst, arith}
 use Rattle.std.specs.Prelude.{drop}
 use Rattle.std.proofs.lemmas.Bool.{lt-ltb}
-use Rattle.serde_json.specs.Data.{Data}
 use Rattle.dap_channel.specs.Sent.{saturating_count}
-use Rattle.dap_recording.specs.declared.reading.RecordingFault.{RecordingFault}
-use Rattle.dap_recording.specs.declared.reading.RecordingFault.TheVariants as fault
 use Rattle.dap_plan.specs.declared.fault.AdapterFault.{AdapterFault}
 use Rattle.dap_host.specs.Hearing.{HostState, IsGoing, counted, mark_of, is_too_long, HearsMarked, StopsMarked, HearsText, HearsIf, StopsIf, Hears, Stops}
-use Rattle.dap_line.specs.Moments.{HasSources, ReadsSources, FileRefused}
 use Rattle.dap_line.specs.Written.{refusal_line}
 use Rattle.dap_line.specs.declared.refusal.Refusal.TheVariants.{TooLong}
 
@@ -44,11 +40,3 @@ hears_text h k line before after short hears = subst (λ (b : Bool). HearsIf b h
 
 pub stops_text : (h k : HostState) (line before after : List ℕ) (fault : AdapterFault) → is_too_long h line ≡ false → StopsMarked (mark_of line) (counted h) (drop 2 line) before after k fault → Stops h line before after k fault
 stops_text h k line before after fault short stops = subst (λ (b : Bool). StopsIf b h line before after k fault) (sym short) stops
-
--- ---- a file without sources
-
-pub bad_base : (bytes : List ℕ) (sources : Data) (f : RecordingFault) → HasSources bytes sources → (f ≢ fault.OutOfMemory → ReadsSources sources (Err f)) → FileRefused bytes f
-bad_base bytes sources fault.NotJson has reads = inr (record { sources = sources; has = has; reads = reads (λ e. cc e) })
-bad_base bytes sources fault.NotObject has reads = inr (record { sources = sources; has = has; reads = reads (λ e. cc e) })
-bad_base bytes sources (fault.BadKey k) has reads = inr (record { sources = sources; has = has; reads = reads (λ e. cc e) })
-bad_base bytes sources fault.OutOfMemory has reads = tt

@@ -1,7 +1,6 @@
 -- What a host's line leads to: it is skipped, or refused, or an adapter over a fed debuggee takes what it says. The format is this
 -- profile's choice.
 use Rattle.std.specs.Prelude.{◌≡◌, ℕ, ◌+◌, ◌<◌, ◌≤◌, nat_lt, Bool, true, false, List, [], ◌∷◌, ◌++◌, length, take, drop, codes, bytes_eq, Option, Some, None, Ok, Err, if◌then◌else◌}
-use Rattle.serde_json.specs.Data.{Data}
 use Rattle.dap_adapter.specs.AdapterState.{AdapterState}
 use Rattle.dap_adapter.specs.Parts.{StopsAfter}
 use Rattle.dap_adapter.specs.Run.{to_take, to_poll, has_ended}
@@ -25,12 +24,13 @@ use Rattle.dap_live.specs.MailState.{no_mail, with_coming}
 use Rattle.dap_host.specs.Fed.{AnswersFed, TellsFed, over_mail}
 use Rattle.dap_envelope.specs.Refusals.{Bad}
 use Rattle.dap_envelope.specs.declared.message.Message.{Message}
+use Rattle.dap_json.specs.Read.{json_of}
+use Rattle.dap_recording.specs.Reading.{file_sources}
 use Rattle.dap_recording.specs.declared.recording.RecordedSource.{RecordedSource}
-use Rattle.dap_replay.specs.Played.{Played}
 use Rattle.dap_plan.specs.Session.{fresh_session}
 use Rattle.dap_tables.specs.References.{target_of}
 use Rattle.dap_plan.specs.declared.fault.AdapterFault.{AdapterFault}
-use Rattle.dap_line.specs.Moments.{IsComing, Fails, HasSources, ReadsSources, sources_after, HasRoom}
+use Rattle.dap_line.specs.Moments.{IsComing, Fails, sources_after, HasRoom}
 use Rattle.dap_line.specs.Told.{IsMessage, said_of, happening_of}
 use Rattle.dap_line.specs.Written.{message_lines, act_lines, refusal_line, target_line}
 use Rattle.dap_host.specs.declared.host.Mark.{Mark}
@@ -63,14 +63,10 @@ pub record IsGoing (h : HostState) : Type 0 where
 
 -- a host of this file to which no line came
 pub record IsFresh (limits : Settings) (longest : ℕ) (bytes : List ℕ) (h : HostState) : Type 0 where
-  pub told : Data
-  pub has : HasSources bytes told
-  pub base : Played
-  pub reads : ReadsSources told (Ok base)
-  pub sources : h.sources ≡ base.recording.sources
+  pub reads : file_sources (json_of bytes) ≡ Ok h.sources
   pub stands : StandsFor h.adapter [] []
   pub session : h.adapter.session ≡ fresh_session limits
-  pub debuggee : h.adapter.debuggee ≡ fresh_live base
+  pub debuggee : h.adapter.debuggee ≡ fresh_live h.sources
   pub limits_are : h.limits ≡ limits
   pub longest_is : h.longest ≡ longest
   pub number : h.number ≡ 0

@@ -16,17 +16,19 @@ use dap_debuggee::State;
 use dap_frame::Limits;
 use dap_json::object_reader::Scratch;
 use dap_line::{
-    HostSources, Refusal, Said, Told, Unread, body_refusal, coming_of, happening_in, push_acts,
-    push_refusal, push_target, read_said, sources_in,
+    Refusal, Said, Told, Unread, body_refusal, coming_of, happening_in, push_acts, push_refusal,
+    push_target, read_said,
 };
 use dap_live::{Coming, Dropped, HostAct, Live, why_dropped};
-use dap_recording::RecordingFault;
-use dap_replay::Recorded;
+use dap_recording::{RecordingFault, Sources, Texts};
 use std::alloc::{AllocError, Global};
 use std::marker::Model;
 
 /// Room for a message of the greatest body, and the mark before it: 16777218 bytes.
 pub const LONGEST_LINE: usize = 16777218;
+
+/// For so many bytes of moments texts are kept that later ones share.
+const TEXT_BYTES: usize = 1048576;
 
 /// Where what a line says goes, by its first two bytes.
 #[derive(Clone, Copy)]
@@ -89,7 +91,10 @@ fn dropped_in(phase: Phase, told: &Told) -> Result<Option<Dropped>, AllocError>
 #[derive(Drop)]
 pub struct Host {
     adapter: Adapter<Live>,
-    sources: HostSources,
+    /// Moments are read over them.
+    sources: Sources,
+    /// Those of moments, which later ones share.
+    texts: Texts,
     limits: Limits,
     /// The most bytes that a line may have.
     longest: usize,
@@ -114,7 +119,9 @@ impl Model for Host {
 impl Host {
     ghost use Rattle.std.specs.Prelude.{◌≡◌, ◌≢◌, ◌↔◌, ◌<◌, ◌++◌, List, ℕ, length, IfOk, IfErr, OnOk, OnErr, IfSome, IsTrue, None, Ok, Err, true, false};
     ghost use Rattle.dap_host.specs.Hearing.{IsFresh, IsGoing, RefusesMessage, TakesMessage, Comes, HearsTold, IsUnheard, AnswersMessage, dropped_line, TellsIt, TellsOrDrops, TellsAndKeeps, StopsMessage, StopsTelling, HearsMessage, HearsHappening, HearsMarked, StopsMarked, HearsText, Hears, Stops, counted};
-    ghost use Rattle.dap_line.specs.Moments.{FileRefused, HasRoom};
+    ghost use Rattle.dap_json.specs.Read.{json_of};
+    ghost use Rattle.dap_line.specs.Moments.{HasRoom};
+    ghost use Rattle.dap_recording.specs.Reading.{IsVerdict, file_sources};
     ghost use Rattle.dap_host.specs.PrivateKeeping.{AreAll, keeps_all};
     ghost use Rattle.dap_line.specs.Told.{said_of};
     ghost use Rattle.dap_line.specs.Written.{message_lines, refusal_line, target_line};
@@ -124,14 +131,12 @@ impl Host {
     ghost use Rattle.dap_outbox.specs.Draft.{bytes_of};
     ghost use Rattle.dap_plan.specs.Polling.{has_debuggee};
 
-    /// A host of a debuggee that is not started. The bytes are a JSON object with the `sources` of a recording, the first of
-    /// which has a line; a recording is one, and what else it has is not looked at. A line may have so many bytes as `longest` says;
-    /// [`LONGEST_LINE`] has room for the greatest message.
+    /// A host of a debuggee that is not started. The bytes are a JSON object with the `sources` of a recording; a recording is one,
+    /// and what else it has is not looked at. A line may have so many bytes as `longest` says; [`LONGEST_LINE`] has room for the
+    /// greatest message.
     ///
     /// # Errors
-    /// `NotJson` and `NotObject` as of `Recorded::read`. `BadKey` with `sources` where these are absent, `null`, no array or more
-    /// than 65536, with the first bad key of a source, with `source` where there is none, and with `line` where the first has no
-    /// line. `OutOfMemory` where memory is refused.
+    /// Those of `Sources::of_file`, and `OutOfMemory` where memory is refused to the adapter.
     pub fn open(
         alloc: Global,
         limits: Limits,
@@ -140,21 +145,22 @@ impl Host {
     ) -> Result<Host, RecordingFault>
         ensures fresh { IfOk result (IsFresh limits longest bytes.now) }
         ensures going { IfOk result IsGoing }
-        ensures refused { IfErr result (FileRefused bytes.now) }
+        ensures refused { IfErr result (λ fault. IsVerdict (Err fault) (file_sources (json_of bytes.now))) }
     {
         // For the proof: no message is under way.
         limits_are_in_range(&limits);
         bodies_come_one_by_one::<Live>();
-        let told = sources_in(alloc, bytes)?;
-        let (sources, base) = match HostSources::open(alloc, &told) {
-            Ok(opened) => opened,
+        let mut texts = Texts::new(alloc, TEXT_BYTES)?;
+        let sources = match Sources::of_file(&mut texts, bytes) {
+            Ok(sources) => sources,
             Err(fault) => return Err(fault),
         };
-        let live = Live::open(alloc, base);
+        let live = Live::open(alloc, sources.clone()?);
         let adapter = Adapter::open(alloc, limits, live)?;
         Ok(Host {
             adapter,
             sources,
+            texts,
             limits,
             longest,
             number: 0,
@@ -308,14 +314,14 @@ impl Host {
     }
 
     /// What comes by what a host tells by a text.
-    fn coming_in(&mut self, alloc: Global, _text: &[u8], told: Told) -> Result<Coming, Unread>
+    fn coming_in(&mut self, _text: &[u8], told: Told) -> Result<Coming, Unread>
         requires { said_of _text.now ≡ Ok (Said.Happened told) }
         ensures comes { IfOk result (Comes self.old _text.now) }
         ensures refused { IfErr result (IsUnheard self.old _text.now) }
         ensures same { self.new ≡ self.old }
     {
         match dropped_in(self.adapter.phase(), &told) {
-            Ok(None) => coming_of(alloc, &mut self.sources, told),
+            Ok(None) => coming_of(&mut self.texts, &self.sources, told),
             Ok(Some(why)) => Err(Unread::Refused(Refusal::Dropped(why))),
             Err(_) => Err(Unread::OutOfMemory),
         }
@@ -372,7 +378,7 @@ impl Host {
         ensures going { OnOk result (IsGoing self.new) }
         ensures stops { IfErr result (λ fault. fault ≢ AdapterFault.OutOfMemory → (coming : Coming) × HearsTold self.old text.now coming × StopsTelling self.old coming out.old.items out.new.items self.new fault) }
     {
-        match self.coming_in(alloc, text, told) {
+        match self.coming_in(text, told) {
             Ok(coming) => self.hear_coming(alloc, text, coming, out),
             Err(Unread::Refused(why)) => self.refuse(why, out),
             Err(Unread::OutOfMemory) => Err(AdapterFault::OutOfMemory),
@@ -425,14 +431,9 @@ impl Host {
     }
 
     /// All sources, once those come that are told.
-    fn all_sources(
-        &mut self,
-        alloc: Global,
-        coming: &Coming,
-    ) -> Result<Option<Recorded>, AllocError>
-        requires { HasRoom self.old.sources coming.now }
-        ensures all { IfOk result (λ all. AreAll coming.now self.old.sources all) }
-        ensures same { self.new ≡ self.old }
+    fn all_sources(&self, alloc: Global, coming: &Coming) -> Result<Option<Sources>, AllocError>
+        requires { HasRoom self.now.sources coming.now }
+        ensures { IfOk result (λ all. AreAll coming.now self.now.sources all) }
     {
         match coming {
             Coming::Sources(more) => Ok(Some(self.sources.with(alloc, more)?)),
@@ -441,12 +442,12 @@ impl Host {
     }
 
     /// Keeps all sources, where what came is heard.
-    fn keep(&mut self, all: Option<Recorded>, dropped: Option<Dropped>)
+    fn keep(&mut self, all: Option<Sources>, dropped: Option<Dropped>)
         ensures { self.new ≡ keeps_all dropped all self.old }
     {
         if let Some(all) = all {
             if dropped.is_none() {
-                self.sources.replace(all);
+                self.sources = all;
             }
         }
     }

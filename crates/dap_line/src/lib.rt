@@ -1,6 +1,6 @@
 //! The lines between a host and its adapter: what a host tells, as it is read, and what it is answered, as it is written.
 //!
-//! `docs/HOST.md` has the lines. This crate knows the lines, the sources over which a moment is read, and why a line is refused;
+//! `docs/HOST.md` has the lines. This crate knows the lines, how a moment is read over sources, and why a line is refused;
 //! it must not know an adapter, nor when a line may come.
 #![tactic(auto)]
 
@@ -9,15 +9,13 @@ mod messages;
 mod moments;
 mod reading;
 mod refusal;
-mod sources;
 mod targets;
 mod told;
 
 pub use acts::push_acts;
 pub use messages::push_message;
-pub use moments::{coming_of, sources_in};
+pub use moments::coming_of;
 pub use reading::body_refusal;
 pub use refusal::{HostKey, Refusal, push_refusal};
-pub use sources::HostSources;
 pub use targets::push_target;
 pub use told::{Said, Told, Unread, happening_in, read_said};

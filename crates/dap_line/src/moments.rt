@@ -1,45 +1,43 @@
 //! Moments and sources, as they are told, and what comes of them.
-ghost use Rattle.std.specs.Prelude.{◌≡◌, IfOk, IfErr};
-ghost use Rattle.dap_recording.specs.declared.reading.RecordingFault.{RecordingFault};
-ghost use Rattle.dap_line.specs.Moments.{IsComing, Fails, HasSources, LacksSources, moment_refusal, sources_refusal};
+ghost use Rattle.std.specs.Prelude.{◌≡◌, IfOk, IfErr, Ok};
+ghost use Rattle.dap_recording.specs.Reading.{read_moment, sources_of};
+ghost use Rattle.dap_line.specs.Moments.{IsComing, Fails, IfRefused, IsBadMoment, AreBadSources};
 
 use crate::refusal::Refusal;
-use crate::sources::HostSources;
 use crate::told::{Told, Unread};
-use dap_json::{ParseFault, Tree, field, parse};
+use dap_json::Tree;
 use dap_live::Coming;
-use dap_recording::{RecordingFault, RecordingKey};
-use std::alloc::Global;
+use dap_recording::{RecordingFault, Snapshot, Sources, Texts};
 
-/// Why a moment is refused.
-fn unread_moment(fault: RecordingFault) -> Unread
-    ensures { result ≡ moment_refusal fault }
+/// The moment that is told, over the sources.
+fn moment_in(texts: &mut Texts, sources: &Sources, moment: &Tree) -> Result<Snapshot, Unread>
+    ensures is { IfOk result (λ shows. read_moment sources.now moment.now ≡ Ok shows) }
+    ensures fails { IfErr result (IfRefused (IsBadMoment sources.now moment.now)) }
 {
-    match fault {
-        RecordingFault::BadKey { key } => Unread::Refused(Refusal::BadMoment(key)),
-        RecordingFault::NotJson => Unread::Refused(Refusal::NotJson),
-        RecordingFault::NotObject => Unread::Refused(Refusal::NotJson),
-        RecordingFault::OutOfMemory => Unread::OutOfMemory,
+    match Snapshot::read(texts, sources, moment) {
+        Ok(shows) => Ok(shows),
+        Err(RecordingFault::BadKey { key }) => Err(Unread::Refused(Refusal::BadMoment(key))),
+        // What is JSON is refused for a key alone.
+        Err(_) => Err(Unread::OutOfMemory),
     }
 }
 
-/// Why sources are refused.
-fn unread_sources(fault: RecordingFault) -> Unread
-    ensures { result ≡ sources_refusal fault }
+/// The sources that are told.
+fn sources_in(texts: &mut Texts, sources: &Tree) -> Result<Sources, Unread>
+    ensures are { IfOk result (λ read. sources_of sources.now ≡ Ok read) }
+    ensures fails { IfErr result (IfRefused (AreBadSources sources.now)) }
 {
-    match fault {
-        RecordingFault::BadKey { key } => Unread::Refused(Refusal::BadSources(key)),
-        RecordingFault::NotJson => Unread::Refused(Refusal::NotJson),
-        RecordingFault::NotObject => Unread::Refused(Refusal::NotJson),
-        RecordingFault::OutOfMemory => Unread::OutOfMemory,
+    match Sources::read(texts, sources) {
+        Ok(read) => Ok(read),
+        Err(RecordingFault::BadKey { key }) => Err(Unread::Refused(Refusal::BadSources(key))),
+        Err(_) => Err(Unread::OutOfMemory),
     }
 }
 
 /// What comes of what is told. A moment is read over the sources.
-pub fn coming_of(alloc: Global, sources: &mut HostSources, told: Told) -> Result<Coming, Unread>
-    ensures comes { IfOk result (IsComing sources.old told) }
-    ensures fails { IfErr result (Fails sources.old told) }
-    ensures same { sources.new ≡ sources.old }
+pub fn coming_of(texts: &mut Texts, sources: &Sources, told: Told) -> Result<Coming, Unread>
+    ensures comes { IfOk result (IsComing sources.now told) }
+    ensures fails { IfErr result (Fails sources.now told) }
 {
     match told {
         Told::Output { category, text } => Ok(Coming::Output { category, text }),
@@ -48,14 +46,14 @@ pub fn coming_of(alloc: Global, sources: &mut HostSources, told: Told) -> Result
             thread,
             moment,
             later,
-        } => match sources.read_moment(alloc, &moment) {
+        } => match moment_in(texts, sources, &moment) {
             Ok(shows) => Ok(Coming::Stopped {
                 reason,
                 thread,
                 shows,
                 later,
             }),
-            Err(fault) => Err(unread_moment(fault)),
+            Err(unread) => Err(unread),
         },
         Told::Continued { thread } => Ok(Coming::Continued { thread }),
         Told::Exited { code } => Ok(Coming::Exited { code }),
@@ -69,30 +67,9 @@ pub fn coming_of(alloc: Global, sources: &mut HostSources, told: Told) -> Result
             holder,
         }),
         Told::Variables { holder, variables } => Ok(Coming::Variables { holder, variables }),
-        Told::Loaded { sources: more } => match sources.read_sources(alloc, &more) {
-            Ok(base) => Ok(Coming::Sources(base)),
-            Err(fault) => Err(unread_sources(fault)),
+        Told::Loaded { sources: more } => match sources_in(texts, &more) {
+            Ok(read) => Ok(Coming::Sources(read)),
+            Err(unread) => Err(unread),
         },
-    }
-}
-
-/// The sources of a recording, which need have no moments.
-pub fn sources_in(alloc: Global, bytes: &[u8]) -> Result<Tree, RecordingFault>
-    ensures sources { IfOk result (HasSources bytes.now) }
-    ensures none { IfErr result (LacksSources bytes.now) }
-{
-    let mut file = match parse(alloc, bytes) {
-        Ok(file) => file,
-        Err(ParseFault::NotJson) => return Err(RecordingFault::NotJson),
-        Err(ParseFault::OutOfMemory) => return Err(RecordingFault::OutOfMemory),
-    };
-    if !file.is_object() {
-        return Err(RecordingFault::NotObject);
-    }
-    match field::take_tree(&mut file, "sources") {
-        Some(sources) => Ok(sources),
-        None => Err(RecordingFault::BadKey {
-            key: RecordingKey::Sources,
-        }),
     }
 }

@@ -1,6 +1,6 @@
 -- Worked examples of what a host's debuggee drops, answers and shows, each shown by computation.
-use Rattle.std.proofs.Common.{◌≡◌, List, ℕ, [], ◌∷◌, codes, length, replicate, Bool, true, false, Option, None, Some, pos, refl}
-use Rattle.dap_command.specs.declared.source_key.SourceKey.TheVariants.{Reference}
+use Rattle.std.proofs.Common.{◌≡◌, List, ℕ, [], ◌∷◌, codes, replicate, Bool, true, false, Option, None, Some, pos, refl}
+use Rattle.dap_command.specs.declared.source_key.SourceKey.TheVariants.{Path, Reference}
 use Rattle.dap_debuggee.specs.Shown.{to_start, to_resume, to_pause, to_poll, to_set_breakpoints, to_assign, to_end, done, refused, happened}
 use Rattle.dap_debuggee.specs.declared.answers.State.{State}
 use Rattle.dap_debuggee.specs.declared.answers.State.TheVariants.{NotStarted, Running, Stopped, Gone}
@@ -11,12 +11,13 @@ use Rattle.dap_debuggee.specs.declared.answers.Happening.TheVariants as happenin
 use Rattle.dap_live.specs.declared.held.Learned.{Learned}
 use Rattle.dap_debuggee.specs.declared.answers.Variable.{Variable}
 use Rattle.dap_debuggee.specs.Laws.{with_value}
-use Rattle.dap_replay.specs.Played.{Played, fresh_played, shown_of, with_sources_of}
+use Rattle.dap_recording.specs.Snapshot.{MomentAlone}
+use Rattle.dap_recording.specs.declared.recording.RecordedSource.{RecordedSource}
 use Rattle.dap_live.specs.declared.here.Here.{Here}
 use Rattle.dap_live.specs.declared.mail.Dropped.{Dropped}
-use Rattle.dap_live.specs.declared.mail.Dropped.TheVariants.{OutOfTurn, OutOfRange, Told, TooManyHolders}
+use Rattle.dap_live.specs.declared.mail.Dropped.TheVariants.{OutOfTurn, OutOfRange, TooManySources, Told, TooManyHolders}
 use Rattle.dap_live.specs.Dropping.{why_dropped, why_not_more, why_untold, heard}
-use Rattle.dap_live.specs.LiveShown.{LiveState, fresh_live, told_of, value_told, evaluated, evaluation_in, threads_in, now_shown, children_in, assigned_by}
+use Rattle.dap_live.specs.LiveShown.{LiveState, fresh_live, shown_live, told_of, value_told, evaluated, evaluation_in, threads_in, now_shown, children_in, assigned_by}
 use Rattle.dap_live.specs.declared.mail.Coming.{Coming}
 use Rattle.dap_live.specs.declared.mail.Coming.TheVariants as coming
 use Rattle.dap_live.specs.declared.mail.HostAct.TheVariants as act
@@ -67,12 +68,13 @@ nothing_shown = (refl, refl, refl, refl)
 abbrev one : List ℕ → List Variable
 one value = record { name = codes "x"; value = value; holder = None } ∷ []
 
+abbrev source : RecordedSource
+source = record { name = codes "a"; path = None; text = codes "x"; on_disk = false; lines = 1 }
+
 -- with these holders of scopes that came without their variables
-abbrev recorded_with : List ℕ → Played
-recorded_with untold = fresh_played (record {
-  exit = pos 0;
-  sources = record { name = codes "a"; path = None; text = codes "x"; on_disk = false; lines = 1 } ∷ [];
-  moments = record {
+abbrev moment_with : List ℕ → MomentAlone
+moment_with untold = record {
+  moment = record {
     threads = record { id = pos 1; name = codes "main"; frames = record { object = 0; name = codes "f"; source = Some 0; line = 1 } ∷ [] } ∷ [];
     thread = 0;
     output = [];
@@ -80,20 +82,18 @@ recorded_with untold = fresh_played (record {
     stop = None;
     frames = record { from = 0; to = 1 };
     holders = record { from = 0; to = 2 };
-  } ∷ [];
+  };
   scopes = (record { name = codes "Locals"; holder = 0 } ∷ record { name = codes "Globals"; holder = 1 } ∷ []) ∷ [];
   variables = [] ∷ one (codes "1") ∷ [];
   untold = untold;
-})
+  sources = 1;
+}
 
-abbrev recorded : Played
-recorded = recorded_with (0 ∷ [])
-
-abbrev begun : Played
-begun = record recorded { state = Running }
+abbrev moment : MomentAlone
+moment = moment_with (0 ∷ [])
 
 abbrev shows : Bool → Option Here
-shows later = Some (record { moment = begun; later = later; told = [] })
+shows later = Some (record { moment = moment; later = later; told = [] })
 
 -- what the host tells of holder 0 and of a holder of its own number, 7
 abbrev told_more : Option Here
@@ -105,7 +105,7 @@ scopes_of_a_stop = (refl, refl, refl, refl, refl)
 
 -- one that came with no variables has none, whether more is told later or not
 abbrev told_empty : Bool → Option Here
-told_empty later = Some (record { moment = (let fresh : Played = recorded_with [] in record fresh { state = Running }); later = later; told = [] })
+told_empty later = Some (record { moment = moment_with []; later = later; told = [] })
 
 empty_scopes : (children_in (told_empty true) 0 ≡ Some []) × (children_in (told_empty false) 0 ≡ Some []) × (why_untold (told_empty true) 0 ≡ Some Told) × (children_in (told_empty true) 7 ≡ None) × (why_untold (told_empty true) 7 ≡ None)
 empty_scopes = (refl, refl, refl, refl, refl)
@@ -128,7 +128,7 @@ values_set = (refl, refl, refl, refl, refl)
 
 -- stopped, with a value of a text, after this was said
 abbrev at_stop : Bool → Option Coming → LiveState
-at_stop later said = let fresh : LiveState = fresh_live begun in record fresh { state = Stopped; here = shows later; learned = Some (record { text = codes "9"; value = Some (codes "9"); holder = None }); mail = record { coming = said; acts = act.Start ∷ []; dropped = Some Told } }
+at_stop later said = let fresh : LiveState = fresh_live (source ∷ []) in record fresh { state = Stopped; here = shows later; learned = Some (record { text = codes "9"; value = Some (codes "9"); holder = None }); mail = record { coming = said; acts = act.Start ∷ []; dropped = Some Told } }
 
 abbrev at : State → Option Coming → LiveState
 at state said = let stop : LiveState = at_stop true said in record stop { state = state }
@@ -146,7 +146,7 @@ abbrev two : Coming
 two = coming.Variables 0 (one (codes "2"))
 
 abbrev halt : Coming
-halt = coming.Stopped (codes "step") (pos 3) recorded false
+halt = coming.Stopped (codes "step") (pos 3) moment false
 
 abbrev sum_is : Coming
 sum_is = coming.Learned (codes "x + 1") (Some (codes "2")) None
@@ -189,14 +189,20 @@ another_stop = refl
 nine_set : here_after (to_assign 1 (codes "x") (codes "9")) (at_stop true None) ≡ with_told 1 (one (codes "9")) (shows true)
 nine_set = refl
 
+-- one that was read over more sources than there are is not shown
+abbrev wide : Coming
+wide = coming.Stopped (codes "step") (pos 3) (record moment { sources = 2 }) false
+
+too_wide : (reply_to to_poll (at Running (Some wide)) ≡ happened happening.Nothing) × (here_after to_poll (at Running (Some wide)) ≡ shows true) × (mail_after to_poll done (at Running (Some wide)) ≡ left (Some TooManySources))
+too_wide = (refl, refl, refl)
+
 -- ---- sources that come later
 
--- of the recording above, once more
-abbrev more : Played
-more = with_sources_of recorded recorded
+abbrev with_more : LiveState
+with_more = fresh_live (source ∷ record { name = codes "b"; path = Some (codes "/b"); text = codes "y\nz"; on_disk = true; lines = 2 } ∷ [])
 
-places : (length (shown_of more).sources ≡ 2) × ((shown_of more).content 1 ≡ Some (codes "x")) × ((shown_of more).content 2 ≡ None) × ((shown_of more).verify (Reference 2) (1 ∷ 2 ∷ []) ≡ Some (true ∷ false ∷ [])) × ((shown_of recorded).verify (Reference 2) (1 ∷ []) ≡ Some (false ∷ []))
+places : ((shown_live with_more).content 1 ≡ Some (codes "y\nz")) × ((shown_live with_more).content 2 ≡ None) × ((shown_live with_more).verify (Reference 2) (2 ∷ 3 ∷ []) ≡ Some (true ∷ false ∷ [])) × ((shown_live with_more).verify (Path (codes "/b")) (2 ∷ []) ≡ Some (true ∷ [])) × ((shown_live (fresh_live (source ∷ []))).verify (Reference 2) (1 ∷ []) ≡ Some (false ∷ []))
 places = (refl, refl, refl, refl, refl)
 
-sources_next : (length (shown_of (sources_after to_poll (at Gone (Some (coming.Sources recorded))))).sources ≡ 2) × (sources_after to_poll (at Stopped (Some seven)) ≡ begun)
+sources_next : (sources_after to_poll (at Gone (Some (coming.Sources (source ∷ [])))) ≡ source ∷ source ∷ []) × (sources_after to_poll (at Stopped (Some seven)) ≡ source ∷ [])
 sources_next = (refl, refl)

@@ -38,7 +38,7 @@ same_told (Some (coming.Sources more)) v m = refl
 -- the view after a poll that gives this
 abbrev polled_to : LiveState → Option Coming → Option Dropped → Happening → MailState → LiveState
 polled_to v o why told mail = record {
-  base = sources_by o why v.base;
+  sources = sources_by o why v.sources;
   here = here_by o why v.here;
   learned = learned_by o;
   state = state_after v.state to_poll (happened told);

@@ -12,7 +12,9 @@ use Rattle.dap_live.specs.declared.mail.Coming.{Coming}
 use Rattle.dap_live.specs.declared.mail.Coming.TheVariants as coming
 use Rattle.dap_live.specs.declared.here.Here.{Here}
 use Rattle.dap_live.specs.LiveShown.{LiveState, children_in, now_shown}
-use Rattle.dap_replay.specs.Played.{Played, first_of, shown_of}
+use Rattle.dap_recording.specs.Snapshot.{MomentAlone}
+use Rattle.dap_recording.specs.Variables.{first_of}
+use Rattle.dap_recording.specs.declared.recording.RecordedSource.{RecordedSource}
 
 abbrev pub why_dropped : State → Happening → Option Dropped
 why_dropped state h = if may_happen state h then (if is_short h then None else Some OutOfRange) else Some OutOfTurn
@@ -39,28 +41,28 @@ why_untold (Some here) holder = why_not_more (children_in (Some here) holder) (l
 
 -- ---- a stop, and sources
 
--- a moment with more sources than the debuggee is not shown
-abbrev pub why_too_wide : Played → Played → Option Dropped
-why_too_wide shows base = if nat_le (length (shown_of shows).sources) (length (shown_of base).sources) then None else Some TooManySources
+-- a moment that was read over more sources than the debuggee has is not shown
+abbrev pub why_too_wide : MomentAlone → List RecordedSource → Option Dropped
+why_too_wide shows sources = if nat_le shows.sources (length sources) then None else Some TooManySources
 
 -- why a stop with this moment is not heard
-abbrev pub why_not_shown : State → Played → List ℕ → ℤ → Played → Option Dropped
-why_not_shown state base reason thread shows = first_of (why_dropped state (happening.Stopped reason thread)) (why_too_wide shows base)
+abbrev pub why_not_shown : State → List RecordedSource → List ℕ → ℤ → MomentAlone → Option Dropped
+why_not_shown state sources reason thread shows = first_of (why_dropped state (happening.Stopped reason thread)) (why_too_wide shows sources)
 
 -- why these sources do not come behind those of the debuggee
-abbrev pub why_no_room : Played → Played → Option Dropped
-why_no_room more base = if nat_le (length (shown_of base).sources + length (shown_of more).sources) 65536 then None else Some TooManySources
+abbrev pub why_no_room : List RecordedSource → List RecordedSource → Option Dropped
+why_no_room more sources = if nat_le (length sources + length more) 65536 then None else Some TooManySources
 
 -- ---- whatever a host says
 
 abbrev pub why_unheard : Coming → LiveState → Option Dropped
 why_unheard (coming.Output category text) v = why_dropped v.state (happening.Output category text)
-why_unheard (coming.Stopped reason thread shows later) v = why_not_shown v.state v.base reason thread shows
+why_unheard (coming.Stopped reason thread shows later) v = why_not_shown v.state v.sources reason thread shows
 why_unheard (coming.Continued thread) v = why_dropped v.state (happening.Continued thread)
 why_unheard (coming.Exited code) v = why_dropped v.state (happening.Exited code)
 why_unheard (coming.Learned text value holder) v = None
 why_unheard (coming.Variables holder variables) v = why_untold (now_shown v.state v.here) holder
-why_unheard (coming.Sources more) v = why_no_room more v.base
+why_unheard (coming.Sources more) v = why_no_room more v.sources
 
 -- ---- law
 

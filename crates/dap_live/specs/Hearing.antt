@@ -1,11 +1,11 @@
 -- What comes of what a host says, once the debuggee is asked what happened: what is told, why it is dropped, and what is known and shown then.
 -- This profile's choice.
-use Rattle.std.specs.Prelude.{ℕ, List, [], Option, Some, None, option_map}
+use Rattle.std.specs.Prelude.{ℕ, List, [], ◌++◌, Option, Some, None, option_map}
 use Rattle.dap_debuggee.specs.declared.answers.Happening.{Happening}
 use Rattle.dap_debuggee.specs.declared.answers.Happening.TheVariants as happening
 use Rattle.dap_debuggee.specs.declared.answers.Variable.{Variable}
-use Rattle.dap_debuggee.specs.Shown.{to_start}
-use Rattle.dap_replay.specs.Played.{Played, act_on, with_ask, with_sources_of, with_variables}
+use Rattle.dap_recording.specs.Variables.{with_variables}
+use Rattle.dap_recording.specs.declared.recording.RecordedSource.{RecordedSource}
 use Rattle.dap_live.specs.declared.held.Learned.{Learned}
 use Rattle.dap_live.specs.declared.here.Here.{Here}
 use Rattle.dap_live.specs.declared.mail.Coming.{Coming}
@@ -49,17 +49,13 @@ learned_by (Some c) = learned_with c
 
 -- ---- what is shown
 
--- the first moment of a recording
-abbrev pub first_moment : Played → Played
-first_moment shows = with_ask to_start (act_on to_start shows).0 (act_on to_start shows).1
-
 -- variables of a holder, before what the moment has
 abbrev pub with_told : ℕ → List Variable → Option Here → Option Here
 with_told holder variables here = option_map (λ (h : Here). record h { told = with_variables holder variables h.told }) here
 
 -- the moment of a stop is shown, of which nothing is told yet, and variables that are told, where these are not dropped; else what was
 abbrev pub here_with : Coming → Option Dropped → Option Here → Option Here
-here_with (coming.Stopped reason thread shows later) None here = Some (record { moment = first_moment shows; later = later; told = [] })
+here_with (coming.Stopped reason thread shows later) None here = Some (record { moment = shows; later = later; told = [] })
 here_with (coming.Variables holder variables) None here = with_told holder variables here
 here_with _ _ here = here
 
@@ -70,10 +66,10 @@ here_by (Some c) why here = here_with c why here
 -- ---- sources
 
 -- they come behind those there were, where they are not dropped
-abbrev pub sources_with : Coming → Option Dropped → Played → Played
-sources_with (coming.Sources more) None base = with_sources_of more base
-sources_with _ _ base = base
+abbrev pub sources_with : Coming → Option Dropped → List RecordedSource → List RecordedSource
+sources_with (coming.Sources more) None sources = sources ++ more
+sources_with _ _ sources = sources
 
-abbrev pub sources_by : Option Coming → Option Dropped → Played → Played
-sources_by None why base = base
-sources_by (Some c) why base = sources_with c why base
+abbrev pub sources_by : Option Coming → Option Dropped → List RecordedSource → List RecordedSource
+sources_by None why sources = sources
+sources_by (Some c) why sources = sources_with c why sources

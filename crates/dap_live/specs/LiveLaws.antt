@@ -1,5 +1,5 @@
 -- What an act answers and leaves of a debuggee that a host feeds, and that each law of every debuggee is kept, whatever the host tells.
-use Rattle.std.proofs.Common.{◌≡◌, ℕ, ℤ, ◌+◌, ◌%◌, ◌^◌, Bool, true, false, nat_eq, List, [], length, Option, Some, None, option_map, IsTrue, if◌then◌else◌, refl, sym, ap, subst, ◌∙◌, true≢false}
+use Rattle.std.proofs.Common.{◌≡◌, ℕ, ℤ, ◌+◌, ◌%◌, ◌^◌, Bool, true, false, nat_eq, List, [], length, map, Option, Some, None, option_map, IsTrue, if◌then◌else◌, refl, sym, ap, subst, ◌∙◌, true≢false}
 use Rattle.std.proofs.lemmas.Bool.{eqb-true}
 use Rattle.std.specs.Prelude.{option_and_then, unwrap_or}
 use Rattle.std.specs.List.{slice_get}
@@ -16,11 +16,12 @@ use Rattle.dap_debuggee.specs.declared.answers.Happening.{Happening}
 use Rattle.dap_debuggee.specs.declared.answers.Happening.TheVariants as happening
 use Rattle.dap_debuggee.specs.declared.answers.Variable.{Variable}
 use Rattle.dap_debuggee.specs.declared.answers.Assigned.{Assigned}
-use Rattle.dap_replay.specs.Played.{Played, shown_of, lines_in, with_source_lines, with_variables, variables_at, first_of, assigned_of}
-use Rattle.dap_replay.specs.PlayedLaws.{verifies_each-played}
-use Rattle.dap_replay.specs.SourceLaws.{sources_of-stay}
-use Rattle.dap_replay.specs.VariableLaws.{variables-put, variables-of_others, assigned-by, assigned-there}
-use Rattle.dap_tables.specs.SourceMap.{OfSource}
+use Rattle.dap_recording.specs.Sources.{source_shown, text_at, lines_verified}
+use Rattle.dap_recording.specs.SourceLaws.{shown-stay, texts-stay, each-verified}
+use Rattle.dap_recording.specs.Variables.{with_variables, variables_at, first_of, assigned_of}
+use Rattle.dap_recording.specs.VariableLaws.{variables-put, variables-of_others, assigned-by, assigned-there}
+use Rattle.dap_recording.specs.declared.recording.RecordedSource.{RecordedSource}
+use Rattle.dap_tables.specs.SourceMap.{OfSource, set_of, of_others, with_set}
 use Rattle.dap_tables.specs.SourceMapLaws.{set-of-put}
 use Rattle.dap_live.specs.declared.held.Learned.{Learned}
 use Rattle.dap_live.specs.declared.here.Here.{Here}
@@ -72,7 +73,7 @@ abbrev pub noted : Last → LiveState → LiveState
 noted last v = record v { acts = (v.acts + 1) % 2 ^ 64; last = Some last }
 
 abbrev pub set_after : Act → List (OfSource ℕ) → List (OfSource ℕ)
-set_after (to_set_breakpoints source lines) set = with_source_lines source lines set
+set_after (to_set_breakpoints source lines) set = with_set source lines (of_others source set)
 set_after _ set = set
 
 -- the value that the host told of a text, where there is one
@@ -94,9 +95,9 @@ abbrev pub learned_after : Act → LiveState → Option Learned
 learned_after to_poll v = learned_by v.mail.coming
 learned_after _ v = v.learned
 
-abbrev pub sources_after : Act → LiveState → Played
-sources_after to_poll v = sources_by v.mail.coming (why_not_heard v.mail.coming v) v.base
-sources_after _ v = v.base
+abbrev pub sources_after : Act → LiveState → List RecordedSource
+sources_after to_poll v = sources_by v.mail.coming (why_not_heard v.mail.coming v) v.sources
+sources_after _ v = v.sources
 
 -- An act that is done is left for the host as it was asked, behind all others; one that is refused is not. A poll takes what came, and leaves why that is dropped.
 abbrev pub mail_after : Act → Reply → LiveState → MailState
@@ -111,7 +112,7 @@ mail_after _ _ v = v.mail
 
 abbrev pub view_after : Act → Reply → LiveState → LiveState
 view_after a reply v = record {
-  base = sources_after a v;
+  sources = sources_after a v;
   here = here_after a v;
   learned = learned_after a v;
   state = state_after v.state a reply;
@@ -206,14 +207,14 @@ same_here (to_set_breakpoints source lines) r v k = refl
 same_here (to_assign holder name text) r v k = absurd (true≢false (sym k))
 same_here to_end r v k = refl
 
-same_base : (a : Act) (r : Reply) (v : LiveState) → IsTrue (keeps_answers a r) → sources_after a v ≡ v.base
-same_base to_start r v k = refl
-same_base (to_resume how thread) r v k = refl
-same_base to_pause r v k = refl
-same_base to_poll r v k = absurd (true≢false (sym k))
-same_base (to_set_breakpoints source lines) r v k = refl
-same_base (to_assign holder name text) r v k = refl
-same_base to_end r v k = refl
+same_list : (a : Act) (r : Reply) (v : LiveState) → IsTrue (keeps_answers a r) → sources_after a v ≡ v.sources
+same_list to_start r v k = refl
+same_list (to_resume how thread) r v k = refl
+same_list to_pause r v k = refl
+same_list to_poll r v k = absurd (true≢false (sym k))
+same_list (to_set_breakpoints source lines) r v k = refl
+same_list (to_assign holder name text) r v k = refl
+same_list to_end r v k = refl
 
 same_learned : (a : Act) (r : Reply) (v : LiveState) → IsTrue (keeps_answers a r) → learned_after a v ≡ v.learned
 same_learned to_start r v k = refl
@@ -266,7 +267,7 @@ may_tell_of (coming.Output category text) v = may_dropped v.state (happening.Out
 may_tell_of (coming.Stopped reason thread shows later) v =
     let h : Happening = happening.Stopped reason thread in
     let unheard : Option Dropped = why_unheard (coming.Stopped reason thread shows later) v in
-    may_unless v.state h unheard (λ is. not_dropped (may_happen v.state h) (is_short h) (first_none (why_dropped v.state h) (why_too_wide shows v.base) is))
+    may_unless v.state h unheard (λ is. not_dropped (may_happen v.state h) (is_short h) (first_none (why_dropped v.state h) (why_too_wide shows v.sources) is))
 may_tell_of (coming.Continued thread) v = may_dropped v.state (happening.Continued thread)
 may_tell_of (coming.Exited code) v = may_dropped v.state (happening.Exited code)
 may_tell_of (coming.Learned text value holder) v = may_nothing v.state
@@ -390,7 +391,7 @@ answers-live v w a r f = subst (λ (reply : Reply). IsTrue (may_answer v.state a
 pub moves-live : Moves shown_live FollowsLive
 moves-live v w a r f = ap (λ (u : LiveState). u.state) f.view
 
-lines_set : (a : Act) (set : List (OfSource ℕ)) (key : SourceKey) → lines_in (set_after a set) key ≡ lines_after a (lines_in set) key
+lines_set : (a : Act) (set : List (OfSource ℕ)) (key : SourceKey) → set_of key (set_after a set) ≡ lines_after a (λ k. set_of k set) key
 lines_set to_start set key = refl
 lines_set (to_resume how thread) set key = refl
 lines_set to_pause set key = refl
@@ -400,7 +401,7 @@ lines_set (to_assign holder name text) set key = refl
 lines_set to_end set key = refl
 
 pub sets_lines-live : SetsLines shown_live FollowsLive
-sets_lines-live v w a r f key = ap (λ (u : LiveState). lines_in u.set key) f.view ∙ lines_set a v.set key
+sets_lines-live v w a r f key = ap (λ (u : LiveState). set_of key u.set) f.view ∙ lines_set a v.set key
 
 same_shown : (v w : LiveState) (a : Act) (r : Reply) → FollowsLive v a r w → IsTrue (keeps_answers a r) → now_shown w.state w.here ≡ now_shown v.state v.here
 same_shown v w a r f k =
@@ -458,51 +459,49 @@ frames_by v w to_end r reply state here k = shown_stays v w state here
 pub keeps_frames-live : KeepsFrames shown_live FollowsLive
 keeps_frames-live v w a r f k = frames_by v w a r f.reply (ap (λ (u : LiveState). u.state) f.view ∙ same_state v.state a r k) (ap (λ (u : LiveState). u.here) f.view) k
 
-same_sources : (v w : LiveState) → w.base ≡ v.base → SameSources (shown_live v) (shown_live w)
-same_sources v w base = record {
-  sources = ap (λ (b : Played). (shown_of b).sources) base;
-  content = λ index. ap (λ (b : Played). (shown_of b).content index) base;
+same_sources : (v w : LiveState) → w.sources ≡ v.sources → SameSources (shown_live v) (shown_live w)
+same_sources v w same = record {
+  sources = ap (map source_shown) same;
+  content = λ index. ap (λ xs. text_at xs index) same;
 }
 
-base_stays : (v w : LiveState) → w.base ≡ v.base → SourcesStay (shown_live v) (shown_live w)
-base_stays v w base = sources-stay (shown_live v) (shown_live w) (same_sources v w base)
+list_stays : (v w : LiveState) → w.sources ≡ v.sources → SourcesStay (shown_live v) (shown_live w)
+list_stays v w same = sources-stay (shown_live v) (shown_live w) (same_sources v w same)
 
-more_stays : (v w : LiveState) (c : Coming) (unheard : Option Dropped) → w.base ≡ sources_with c unheard v.base → SourcesStay (shown_live v) (shown_live w)
-more_stays v w (coming.Output category text) unheard base = base_stays v w base
-more_stays v w (coming.Stopped reason thread shows later) unheard base = base_stays v w base
-more_stays v w (coming.Continued thread) unheard base = base_stays v w base
-more_stays v w (coming.Exited code) unheard base = base_stays v w base
-more_stays v w (coming.Learned text value holder) unheard base = base_stays v w base
-more_stays v w (coming.Variables holder variables) unheard base = base_stays v w base
-more_stays v w (coming.Sources more) None base =
-    let stay = sources_of-stay more v.base in
-    record {
-      sources = λ index x given. ap (λ (b : Played). slice_get (shown_of b).sources index) base ∙ stay.sources index x given;
-      content = λ index x given. ap (λ (b : Played). (shown_of b).content index) base ∙ stay.content index x given;
-    }
-more_stays v w (coming.Sources more) (Some x) base = base_stays v w base
+more_stays : (v w : LiveState) (c : Coming) (unheard : Option Dropped) → w.sources ≡ sources_with c unheard v.sources → SourcesStay (shown_live v) (shown_live w)
+more_stays v w (coming.Output category text) unheard are = list_stays v w are
+more_stays v w (coming.Stopped reason thread shows later) unheard are = list_stays v w are
+more_stays v w (coming.Continued thread) unheard are = list_stays v w are
+more_stays v w (coming.Exited code) unheard are = list_stays v w are
+more_stays v w (coming.Learned text value holder) unheard are = list_stays v w are
+more_stays v w (coming.Variables holder variables) unheard are = list_stays v w are
+more_stays v w (coming.Sources more) None are = record {
+  sources = λ index x given. ap (λ xs. slice_get (map source_shown xs) index) are ∙ shown-stay v.sources more index x given;
+  content = λ index x given. ap (λ xs. text_at xs index) are ∙ texts-stay v.sources more index x given;
+}
+more_stays v w (coming.Sources more) (Some x) are = list_stays v w are
 
-polled_stays : (v w : LiveState) (o : Option Coming) (unheard : Option Dropped) → w.base ≡ sources_by o unheard v.base → SourcesStay (shown_live v) (shown_live w)
-polled_stays v w None unheard base = base_stays v w base
-polled_stays v w (Some c) unheard base = more_stays v w c unheard base
+polled_stays : (v w : LiveState) (o : Option Coming) (unheard : Option Dropped) → w.sources ≡ sources_by o unheard v.sources → SourcesStay (shown_live v) (shown_live w)
+polled_stays v w None unheard are = list_stays v w are
+polled_stays v w (Some c) unheard are = more_stays v w c unheard are
 
-sources_stay_by : (v w : LiveState) (a : Act) → w.base ≡ sources_after a v → SourcesStay (shown_live v) (shown_live w)
-sources_stay_by v w to_start base = base_stays v w base
-sources_stay_by v w (to_resume how thread) base = base_stays v w base
-sources_stay_by v w to_pause base = base_stays v w base
-sources_stay_by v w to_poll base = polled_stays v w v.mail.coming (why_not_heard v.mail.coming v) base
-sources_stay_by v w (to_set_breakpoints source lines) base = base_stays v w base
-sources_stay_by v w (to_assign holder name text) base = base_stays v w base
-sources_stay_by v w to_end base = base_stays v w base
+sources_stay_by : (v w : LiveState) (a : Act) → w.sources ≡ sources_after a v → SourcesStay (shown_live v) (shown_live w)
+sources_stay_by v w to_start are = list_stays v w are
+sources_stay_by v w (to_resume how thread) are = list_stays v w are
+sources_stay_by v w to_pause are = list_stays v w are
+sources_stay_by v w to_poll are = polled_stays v w v.mail.coming (why_not_heard v.mail.coming v) are
+sources_stay_by v w (to_set_breakpoints source lines) are = list_stays v w are
+sources_stay_by v w (to_assign holder name text) are = list_stays v w are
+sources_stay_by v w to_end are = list_stays v w are
 
 pub keeps_sources-live : KeepsSources shown_live FollowsLive
-keeps_sources-live v w a r f = sources_stay_by v w a (ap (λ (u : LiveState). u.base) f.view)
+keeps_sources-live v w a r f = sources_stay_by v w a (ap (λ (u : LiveState). u.sources) f.view)
 
 pub keeps_answers-live : KeepsAnswers shown_live FollowsLive
 keeps_answers-live v w a r f k =
     let same : now_shown w.state w.here ≡ now_shown v.state v.here = same_shown v w a r f k in
     let known : w.learned ≡ v.learned = ap (λ (u : LiveState). u.learned) f.view ∙ same_learned a r v k in
-    let base : w.base ≡ v.base = ap (λ (u : LiveState). u.base) f.view ∙ same_base a r v k in
+    let sources : w.sources ≡ v.sources = ap (λ (u : LiveState). u.sources) f.view ∙ same_list a r v k in
     record {
       threads = ap threads_in same;
       frames = same_frames v w same;
@@ -510,15 +509,15 @@ keeps_answers-live v w a r f k =
           ∙ ap (λ o. evaluated (told_of v.learned text) (evaluation_in o frame text)) same;
       assigned = λ holder name text. ap (λ l. assigned_by (value_told l text) name (children_in (now_shown w.state w.here) holder)) known
           ∙ ap (λ o. assigned_by (value_told v.learned text) name (children_in o holder)) same;
-      sources = same_sources v w base;
-      verify = λ source lines. ap (λ (b : Played). (shown_of b).verify source lines) base;
+      sources = same_sources v w sources;
+      verify = λ source lines. ap (λ xs. Some (lines_verified xs source lines)) sources;
     }
 
 pub no_threads-live : NoThreads shown_live
 no_threads-live v = (λ is. ap (λ s. threads_in (now_shown s v.here)) is, λ is. ap (λ s. threads_in (now_shown s v.here)) is)
 
 pub verifies_each-live : VerifiesEach shown_live
-verifies_each-live v = verifies_each-played v.base
+verifies_each-live v source lines answers is = sym (ap (λ o. length (unwrap_or o [])) is) ∙ each-verified v.sources source lines
 
 variable_there : (told : Option (List ℕ)) (name : List ℕ) (o : Option (List Variable)) → IsSome (assigned_by told name o) → IsSome (option_and_then (variable_named name) o)
 variable_there None name o h = absurd (cc h)
@@ -580,7 +579,7 @@ sets_values-live v w holder name text r f =
     let shown : now_shown w.state w.here ≡ with_told holder changed before =
     ap (λ (u : LiveState). now_shown u.state u.here) f.view ∙ ap (λ s. now_shown s (with_told holder changed v.here)) (same_assigns v.state holder name text r) ∙ told_now v.state v.here holder changed in
     let known : w.learned ≡ v.learned = ap (λ (u : LiveState). u.learned) f.view in
-    let base : w.base ≡ v.base = ap (λ (u : LiveState). u.base) f.view in
+    let sources : w.sources ≡ v.sources = ap (λ (u : LiveState). u.sources) f.view in
     let children : (h : ℕ) → children_in (now_shown w.state w.here) h ≡ children_after holder name value (children_in before) h =
     λ h. ap (λ o. children_in o h) shown ∙ children_set before holder h name value variables has in
     record {
@@ -594,7 +593,7 @@ sets_values-live v w holder name text r f =
         assigned = λ h called given. ap (λ l. assigned_by (value_told l given) called (children_in (now_shown w.state w.here) h)) known
             ∙ ap (assigned_by (value_told v.learned given) called) (children h)
             ∙ same_assigned (value_told v.learned given) (nat_eq h holder) (children_in before h) name value called;
-        sources = same_sources v w base;
-        verify = λ source lines. ap (λ (b : Played). (shown_of b).verify source lines) base;
+        sources = same_sources v w sources;
+        verify = λ source lines. ap (λ xs. Some (lines_verified xs source lines)) sources;
       };
     }

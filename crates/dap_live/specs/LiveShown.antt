@@ -1,6 +1,6 @@
 -- What a debuggee that a host feeds is seen as, and what it shows: what the host told last. Its mail is not shown.
 -- This profile's choice.
-use Rattle.std.specs.Prelude.{ℕ, ℤ, ◌≤◌, Bool, ◌&&◌, List, [], ◌∷◌, length, Option, Some, None, option_map, option_and_then, bytes_eq, if◌then◌else◌}
+use Rattle.std.specs.Prelude.{ℕ, ℤ, ◌≤◌, Bool, ◌&&◌, List, [], ◌∷◌, length, map, Option, Some, None, option_map, option_and_then, bytes_eq, if◌then◌else◌}
 use Rattle.dap_debuggee.specs.Shown.{Shown, Last}
 use Rattle.dap_debuggee.specs.Laws.{variable_named}
 use Rattle.dap_debuggee.specs.declared.answers.State.{State}
@@ -11,8 +11,11 @@ use Rattle.dap_debuggee.specs.declared.answers.Scope.{Scope}
 use Rattle.dap_debuggee.specs.declared.answers.Variable.{Variable}
 use Rattle.dap_debuggee.specs.declared.answers.Evaluation.{Evaluation}
 use Rattle.dap_debuggee.specs.declared.answers.Assigned.{Assigned}
-use Rattle.dap_replay.specs.Played.{Played, is_untold, shown_of, lines_in, first_of, variables_at, evaluation, assigned_of}
-use Rattle.dap_tables.specs.SourceMap.{OfSource}
+use Rattle.dap_recording.specs.Snapshot.{thread_shown, frames_in as frames_of, scopes_alone, children_alone, is_among}
+use Rattle.dap_recording.specs.Sources.{source_shown, text_at, lines_verified}
+use Rattle.dap_recording.specs.Variables.{variables_at, first_of, evaluation, assigned_of}
+use Rattle.dap_recording.specs.declared.recording.RecordedSource.{RecordedSource}
+use Rattle.dap_tables.specs.SourceMap.{OfSource, set_of}
 use Rattle.dap_live.specs.declared.held.Learned.{Learned}
 use Rattle.dap_live.specs.declared.here.Here.{Here}
 use Rattle.dap_live.specs.MailState.{MailState, no_mail}
@@ -20,8 +23,7 @@ use Rattle.dap_live.specs.MailState.{MailState, no_mail}
 -- ---- the view
 
 pub record LiveState : Type 0 where
-  -- its sources are the debuggee's
-  pub base : Played
+  pub sources : List RecordedSource
   -- what is shown of the last stop: a moment, whether more is told later, and what was told or set since
   pub here : Option Here
   -- what the host told last of a text, until the next poll
@@ -36,18 +38,14 @@ pub record LiveState : Type 0 where
 abbrev pub with_mail : MailState → LiveState → LiveState
 with_mail mail v = record v { mail = mail }
 
--- a moment has no more sources than the debuggee
-abbrev pub HasFewSources : Played → Played → Type 0
-HasFewSources moment base = length (shown_of moment).sources ≤ length (shown_of base).sources
+-- what is shown was read over no more sources than there are
+abbrev pub IsFew : List RecordedSource → Option Here → Type 0
+IsFew sources None = Unit {0}
+IsFew sources (Some here) = here.moment.sources ≤ length sources
 
--- what is shown has no more sources than there are
-abbrev pub IsFew : Played → Option Here → Type 0
-IsFew base None = Unit {0}
-IsFew base (Some here) = HasFewSources here.moment base
-
-abbrev pub fresh_live : Played → LiveState
-fresh_live base = record {
-  base = base;
+abbrev pub fresh_live : List RecordedSource → LiveState
+fresh_live sources = record {
+  sources = sources;
   here = None;
   learned = None;
   state = NotStarted;
@@ -68,24 +66,24 @@ now_shown Gone here = None
 
 abbrev pub threads_in : Option Here → List Thread
 threads_in None = []
-threads_in (Some here) = (shown_of here.moment).threads
+threads_in (Some here) = map thread_shown here.moment.moment.threads
 
 abbrev pub frames_in : Option Here → ℤ → Option (List Frame)
 frames_in None thread = None
-frames_in (Some here) thread = (shown_of here.moment).frames thread
+frames_in (Some here) thread = frames_of here.moment.moment.threads thread
 
 abbrev pub scopes_in : Option Here → ℕ → Option (List Scope)
 scopes_in None frame = None
-scopes_in (Some here) frame = (shown_of here.moment).scopes frame
+scopes_in (Some here) frame = scopes_alone here.moment frame
 
 -- where more is told later, a scope that came without its variables is still to be told
 abbrev pub is_to_come : Here → ℕ → Bool
-is_to_come here holder = here.later && is_untold here.moment holder
+is_to_come here holder = here.later && is_among holder here.moment.untold
 
 -- what was told or set comes before what the moment has
 abbrev pub children_in : Option Here → ℕ → Option (List Variable)
 children_in None holder = None
-children_in (Some here) holder = first_of (variables_at holder here.told) (if is_to_come here holder then None else (shown_of here.moment).children holder)
+children_in (Some here) holder = first_of (variables_at holder here.told) (if is_to_come here holder then None else children_alone here.moment holder)
 
 -- the first variable of a name, in the first scope that has one; none where a scope before that is still to be told
 abbrev pub variable_in : (ℕ → Option (List Variable)) → List ℕ → List Scope → Option Variable
@@ -95,7 +93,7 @@ variable_in children name (scope ∷ scopes) = option_and_then (λ variables. fi
 abbrev pub evaluation_in : Option Here → Option ℕ → List ℕ → Option Evaluation
 evaluation_in None frame text = None
 evaluation_in (Some here) None text = None
-evaluation_in (Some here) (Some frame) text = option_map evaluation (option_and_then (variable_in (children_in (Some here)) text) ((shown_of here.moment).scopes frame))
+evaluation_in (Some here) (Some frame) text = option_map evaluation (option_and_then (variable_in (children_in (Some here)) text) (scopes_alone here.moment frame))
 
 -- what the host told, where it is of this text
 abbrev pub told_of : Option Learned → List ℕ → Option Learned
@@ -117,7 +115,7 @@ assigned_by told name variables = option_and_then (λ value. assigned_of name va
 abbrev pub shown_live : LiveState → Shown
 shown_live v = record {
   state = v.state;
-  lines = lines_in v.set;
+  lines = λ key. set_of key v.set;
   acts = v.acts;
   last = v.last;
   threads = threads_in (now_shown v.state v.here);
@@ -126,7 +124,7 @@ shown_live v = record {
   children = children_in (now_shown v.state v.here);
   evaluate = λ frame text. evaluated (told_of v.learned text) (evaluation_in (now_shown v.state v.here) frame text);
   assigned = λ holder name text. assigned_by (value_told v.learned text) name (children_in (now_shown v.state v.here) holder);
-  sources = (shown_of v.base).sources;
-  content = (shown_of v.base).content;
-  verify = (shown_of v.base).verify;
+  sources = map source_shown v.sources;
+  content = text_at v.sources;
+  verify = λ source lines. Some (lines_verified v.sources source lines);
 }

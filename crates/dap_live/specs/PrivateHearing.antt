@@ -34,7 +34,7 @@ heard_of c v = record { happening = told_by c v; dropped = why_not_heard c v }
 -- all but the mail
 abbrev pub after_hearing : Option Coming → LiveState → LiveState
 after_hearing c v = record {
-  base = sources_by c (why_not_heard c v) v.base;
+  sources = sources_by c (why_not_heard c v) v.sources;
   here = here_by c (why_not_heard c v) v.here;
   learned = learned_by c;
   state = state_after v.state to_poll (happened (told_by c v));

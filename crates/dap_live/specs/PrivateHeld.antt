@@ -5,7 +5,7 @@ use Rattle.dap_debuggee.specs.declared.answers.Asked.{Asked}
 use Rattle.dap_debuggee.specs.declared.answers.Asked.TheVariants as ask
 use Rattle.dap_live.specs.declared.mail.HostAct.{HostAct}
 use Rattle.dap_live.specs.declared.mail.HostAct.TheVariants as act
-use Rattle.dap_replay.specs.Played.{Played}
+use Rattle.dap_recording.specs.declared.recording.RecordedSource.{RecordedSource}
 use Rattle.dap_live.specs.declared.held.Learned.{Learned}
 use Rattle.dap_live.specs.declared.held.LiveLast.{LiveLast}
 use Rattle.dap_live.specs.declared.held.LiveLast.TheVariants.{Done, Refused, Polled}
@@ -32,8 +32,8 @@ done_by a = record { asked = asked_of_act a; reply = done }
 abbrev pub with_here : Option Here → LiveState → LiveState
 with_here here v = record v { here = here }
 
-abbrev pub with_base : Played → LiveState → LiveState
-with_base base v = record v { base = base }
+abbrev pub with_sources : List RecordedSource → LiveState → LiveState
+with_sources sources v = record v { sources = sources }
 
 abbrev pub with_learned : Option Learned → LiveState → LiveState
 with_learned learned v = record v { learned = learned }

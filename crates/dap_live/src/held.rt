@@ -4,7 +4,7 @@ use crate::here::Here;
 use crate::mail::{Dropped, Mail};
 use dap_debuggee::{Asked, Happening, State};
 use dap_json::Text;
-use dap_replay::Recorded;
+use dap_recording::Sources;
 use dap_tables::SourceMap;
 use std::alloc::Global;
 use std::marker::Model;
@@ -38,8 +38,7 @@ pub(crate) struct Heard {
 /// A debuggee that a host feeds.
 #[derive(Drop)]
 pub struct Live {
-    /// Its sources are the debuggee's.
-    pub(crate) base: Recorded,
+    pub(crate) sources: Sources,
     /// What is shown of the last stop. It stays while the debuggee runs.
     pub(crate) here: Option<Here>,
     pub(crate) learned: Option<Learned>,
@@ -60,7 +59,7 @@ impl Model for Live {
     ghost Value = { LiveState };
 
     ghost view = { λ l. record {
-      base = l.base;
+      sources = l.sources;
       here = l.here;
       learned = l.learned;
       state = l.state;
@@ -70,20 +69,19 @@ impl Model for Live {
       mail = l.mail;
     } };
 
-    ghost invariant = { λ l. IsFew l.base l.here };
+    ghost invariant = { λ l. IsFew l.sources l.here };
 }
 
 impl Live {
     ghost use Rattle.std.specs.Prelude.{◌≡◌};
     ghost use Rattle.dap_live.specs.LiveShown.{fresh_live};
 
-    /// A debuggee that is not started, with the sources of a recording, and lines where those have lines. The moments of
-    /// that recording do not matter. There is no mail.
-    pub fn open(alloc: Global, base: Recorded) -> Live
-        ensures { result ≡ fresh_live base }
+    /// A debuggee that is not started, with these sources, and lines where those have lines. There is no mail.
+    pub fn open(alloc: Global, sources: Sources) -> Live
+        ensures { result ≡ fresh_live sources }
     {
         Live {
-            base,
+            sources,
             here: None,
             learned: None,
             state: State::NotStarted,

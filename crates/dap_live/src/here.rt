@@ -2,8 +2,8 @@
 
 use crate::mail::Dropped;
 use dap_debuggee::{DebuggeeFault, Evaluation, Scope, Variable};
-use dap_replay::Recorded;
-use dap_replay::variables::{self, HolderMap};
+use dap_recording::Snapshot;
+use dap_recording::variables::{self, HolderMap};
 
 /// How many holders are told in one stop.
 const MAX_HOLDERS: usize = 65536;
@@ -11,8 +11,7 @@ const MAX_HOLDERS: usize = 65536;
 /// What is shown of a stop.
 #[derive(Drop)]
 pub(crate) struct Here {
-    /// Its first moment.
-    pub(crate) moment: Recorded,
+    pub(crate) moment: Snapshot,
     /// Whether more is told later: a scope of the moment that came without its variables is still to be told.
     pub(crate) later: bool,
     /// The variables of the holders that were told later, and of those in which a value was set. They come before the moment's.

@@ -4,9 +4,6 @@ ghost use Rattle.dap_debuggee.specs.Laws.{state_after};
 ghost use Rattle.dap_debuggee.specs.Shown.{to_poll, happened};
 ghost use Rattle.dap_live.specs.Dropping.{why_no_room, why_too_wide};
 ghost use Rattle.dap_live.specs.declared.mail.Dropped.{Dropped};
-ghost use Rattle.dap_replay.specs.Played.{shown_of};
-ghost use Rattle.dap_live.specs.Hearing.{first_moment};
-ghost use Rattle.dap_live.specs.LiveShown.{HasFewSources};
 ghost use Rattle.dap_live.specs.PrivateHeld.{asked_of_act};
 
 use crate::dropping::why_dropped;
@@ -19,12 +16,9 @@ use dap_debuggee::{
     Source, State, Thread, Variable,
 };
 use dap_json::{List, Text};
-use dap_replay::Recorded;
-use dap_replay::variables::{self, HolderMap};
+use dap_recording::variables::{self, HolderMap};
+use dap_recording::{Snapshot, Sources};
 use std::alloc::{AllocError, Global};
-
-/// How many sources there are at most.
-const MAX_SOURCES: usize = 65536;
 
 fn copied(happening: &Happening) -> Result<Happening, AllocError>
     ensures { IfOk result (λ copy. copy ≡ happening.now) }
@@ -73,39 +67,28 @@ fn next(state: State, happening: &Happening) -> State
     }
 }
 
-/// Whether a recording has no more sources than another.
-fn has_few_sources(base: &Recorded, shows: &Recorded) -> bool
-    ensures few { IsTrue result ↔ HasFewSources shows.now base.now }
-    ensures wide { why_too_wide shows.now base.now ≡ (if result then None else Some Dropped.TooManySources) }
+/// Whether a moment was read over no more sources than there are.
+fn has_few_sources(sources: &Sources, shows: &Snapshot) -> bool
+    ensures few { IsTrue result ↔ shows.now.sources ≤ length sources.now }
+    ensures wide { why_too_wide shows.now sources.now ≡ (if result then None else Some Dropped.TooManySources) }
 {
-    shows.source_count() <= base.source_count()
+    shows.source_count() <= sources.len()
 }
 
-/// The same recording, started, unless it is already.
-fn started(alloc: Global, mut shows: Recorded) -> Recorded
-    ensures started { result ≡ first_moment shows }
-    ensures sources { length (shown_of result).sources ≡ length (shown_of shows).sources }
+/// Whether there is room for sources behind those there are.
+fn has_room(sources: &Sources, more: &Sources) -> bool
+    ensures room { IsTrue result ↔ length sources.now + length more.now ≤ 65536 }
+    ensures none { why_no_room more.now sources.now ≡ (if result then None else Some Dropped.TooManySources) }
 {
-    // Refused where it is started already.
-    let _ = shows.start(alloc);
-    shows
-}
-
-/// Whether there is room for the sources of one recording behind those of another.
-fn has_room(base: &Recorded, more: &Recorded) -> bool
-    ensures room { IsTrue result ↔ length (shown_of base.now).sources + length (shown_of more.now).sources ≤ 65536 }
-    ensures none { why_no_room more.now base.now ≡ (if result then None else Some Dropped.TooManySources) }
-{
-    base.source_count().saturating_add(more.source_count()) <= MAX_SOURCES
+    sources.has_room(more)
 }
 
 impl Live {
-    ghost use Rattle.std.specs.Prelude.{◌≡◌, ◌≤◌, ◌+◌, length, Some, None, OnOk, OnErr, IfOk, option_map};
+    ghost use Rattle.std.specs.Prelude.{◌≡◌, ◌≤◌, ◌+◌, ◌++◌, length, Some, None, OnOk, OnErr, IfOk, option_map};
     ghost use Rattle.std.specs.Option.{IsSome};
     ghost use Rattle.dap_debuggee.specs.Laws.{is_short};
     ghost use Rattle.dap_debuggee.specs.Shown.{to_set_breakpoints, to_assign, done};
     ghost use Rattle.dap_debuggee.specs.declared.answers.Happening.{Happening};
-    ghost use Rattle.dap_replay.specs.Played.{shown_of, with_sources_of};
     ghost use Rattle.dap_live.specs.declared.mail.Coming.{Coming};
     ghost use Rattle.dap_live.specs.declared.mail.HostAct.{HostAct};
     ghost use Rattle.dap_live.specs.Dropping.{why_untold};
@@ -113,7 +96,7 @@ impl Live {
     ghost use Rattle.dap_live.specs.LiveLaws.{FollowsLive, noted, value_for, variables_set};
     ghost use Rattle.dap_live.specs.LiveShown.{shown_live, IsFew, now_shown, children_in, told_of, value_told, with_mail};
     ghost use Rattle.dap_live.specs.MailState.{with_act};
-    ghost use Rattle.dap_live.specs.PrivateHeld.{last_of, done_by, with_here, with_base, with_learned};
+    ghost use Rattle.dap_live.specs.PrivateHeld.{last_of, done_by, with_here, with_sources, with_learned};
     ghost use Rattle.dap_live.specs.PrivateHearing.{polled, dropped_so, heard_in, after_happening, heard_of, after_hearing};
 
     /// Counts and remembers an act.
@@ -127,9 +110,9 @@ impl Live {
     /// What is shown has no more sources than there are. There is nothing to run.
     #[inline(always)]
     fn has_few_shown(&self)
-        ensures { IsFew self.now.base self.now.here }
+        ensures { IsFew self.now.sources self.now.here }
     {
-        let _ = &self.base;
+        let _ = &self.sources;
     }
 
     /// What is shown now.
@@ -236,7 +219,7 @@ impl Live {
         alloc: Global,
         reason: Text,
         thread: i64,
-        shows: Recorded,
+        shows: Snapshot,
         more: bool,
     ) -> Result<Heard, AllocError>
         ensures heard { IfOk result (λ h. h ≡ heard_of (Some (Coming.Stopped reason thread shows more)) self.old) }
@@ -248,13 +231,13 @@ impl Live {
         if let Some(why) = why_dropped(self.state, &happening) {
             return Ok(self.drop_it(why));
         }
-        if !has_few_sources(&self.base, &shows) {
+        if !has_few_sources(&self.sources, &shows) {
             return Ok(self.drop_it(Dropped::TooManySources));
         }
         let copy = copied(&happening)?;
         self.state = State::Stopped;
         self.here = Some(Here {
-            moment: started(alloc, shows),
+            moment: shows,
             later: more,
             told: HolderMap::new(alloc),
         });
@@ -268,22 +251,22 @@ impl Live {
 
     /// Puts sources behind those there are.
     #[tactic(auto, using(crate::proofs::Shows::few_more))]
-    fn put_sources(&mut self, alloc: Global, more: Recorded) -> Result<(), AllocError>
-        requires { length (shown_of self.old.base).sources + length (shown_of more).sources ≤ 65536 }
-        ensures put { OnOk result (self.new ≡ with_base (with_sources_of more self.old.base) self.old) }
+    fn put_sources(&mut self, alloc: Global, more: Sources) -> Result<(), AllocError>
+        requires { length self.old.sources + length more ≤ 65536 }
+        ensures put { OnOk result (self.new ≡ with_sources (self.old.sources ++ more) self.old) }
         ensures memory { OnErr result (self.new ≡ self.old) }
     {
-        self.base.add_sources(alloc, &more)?;
+        self.sources = self.sources.with(alloc, &more)?;
         Ok(())
     }
 
     /// Tells nothing, and has more sources, unless they are dropped.
-    fn see_sources(&mut self, alloc: Global, more: Recorded) -> Result<Heard, AllocError>
+    fn see_sources(&mut self, alloc: Global, more: Sources) -> Result<Heard, AllocError>
         ensures heard { IfOk result (λ h. h ≡ heard_of (Some (Coming.Sources more)) self.old) }
         ensures view { OnOk result (self.new ≡ after_hearing (Some (Coming.Sources more)) self.old) }
         ensures memory { OnErr result (self.new ≡ self.old) }
     {
-        if !has_room(&self.base, &more) {
+        if !has_room(&self.sources, &more) {
             return Ok(self.drop_it(Dropped::TooManySources));
         }
         self.put_sources(alloc, more)?;
@@ -603,16 +586,20 @@ impl Debuggee for Live {
         }
     }
 
+    #[tactic(auto, using(crate::proofs::Shows::sources_in_range))]
     fn sources(&self, alloc: Global) -> Result<Vec<Source>, AllocError> {
-        self.base.sources(alloc)
+        self.sources.are_few();
+        self.sources.all(alloc)
     }
 
-    fn source(&self, alloc: Global, index: u32) -> Result<Source, DebuggeeFault> {
-        self.base.source(alloc, index)
+    #[tactic(auto, using(crate::proofs::Shows::sources_in_range))]
+    fn source(&self, _alloc: Global, index: u32) -> Result<Source, DebuggeeFault> {
+        self.sources.are_few();
+        self.sources.source(index)
     }
 
-    fn content(&self, alloc: Global, index: u32) -> Result<Text, DebuggeeFault> {
-        self.base.content(alloc, index)
+    fn content(&self, _alloc: Global, index: u32) -> Result<Text, DebuggeeFault> {
+        self.sources.content(index)
     }
 
     fn verify(
@@ -621,7 +608,7 @@ impl Debuggee for Live {
         source: &SourceKey,
         lines: &[u32],
     ) -> Result<Vec<bool>, DebuggeeFault> {
-        self.base.verify(alloc, source, lines)
+        Ok(self.sources.verify(alloc, source, lines)?)
     }
 
     ghost counts = { counts-live };

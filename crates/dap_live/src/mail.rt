@@ -11,7 +11,7 @@ ghost use Rattle.dap_live.specs.PrivateHeld.{acts_held};
 use dap_command::SourceKey;
 use dap_debuggee::{Category, How, Variable};
 use dap_json::{List, Text};
-use dap_replay::Recorded;
+use dap_recording::{Snapshot, Sources};
 use std::alloc::{AllocError, Global};
 use std::marker::Model;
 
@@ -23,12 +23,13 @@ pub enum Coming {
         category: Category,
         text: Text,
     },
-    /// It stopped, and is where the first moment of a recording is.
+    /// It stopped.
     Stopped {
         /// At most 64 bytes.
         reason: Text,
         thread: i64,
-        shows: Recorded,
+        /// What is shown of the stop.
+        shows: Snapshot,
         /// Whether more is told later. A scope of the moment that came without its variables is then refused until they are told;
         /// else it has none, like one that came with no variables.
         later: bool,
@@ -49,14 +50,14 @@ pub enum Coming {
         holder: Option<u64>,
     },
     /// The variables of a holder that has none yet, until the next stop: one of a moment of which more is told later, of a
-    /// variable, or of a value. The moment's holders are counted from 0, in the order of its recording; others are any numbers
+    /// variable, or of a value. The moment's holders are counted from 0, in the order in which it was read; others are any numbers
     /// beyond those. At most 65536 holders of a stop are told.
     Variables {
         holder: u64,
         variables: List<Variable>,
     },
-    /// The sources of a recording come behind those there are, at most 65536 in all. Its moments do not matter.
-    Sources(Recorded),
+    /// These sources come behind those there are, at most 65536 in all.
+    Sources(Sources),
 }
 
 /// What the host has to do.
@@ -90,7 +91,7 @@ pub enum Dropped {
     OutOfTurn,
     /// A text is too long, or the id of a thread is too great.
     OutOfRange,
-    /// The moment has more sources than the debuggee, or it would have more than 65536.
+    /// The moment was read over more sources than the debuggee has, or it would have more than 65536.
     TooManySources,
     /// The holder has its variables already.
     Told,

@@ -4,8 +4,8 @@ use Rattle.serde_json.specs.Data.{Data, Items, array, no_items, item}
 use Rattle.serde_json.specs.Events.{items_len}
 use Rattle.serde_json.specs.Find.{as_array, as_str}
 use Rattle.dap_json.specs.Steps.{◌>>=◌, ◌>>◌}
-use Rattle.dap_recording.specs.AloneLaw.{AloneIsTheOnlyOne, HostsAreReadSo, only, read_alone}
-use Rattle.dap_recording.specs.Reading.{Read, Numbered, none_numbered, or_bad, in_shape, value_at, element, few_items, some_items, each, each_source, sources_of, source_place, frame_source, new_id, frame_of, thread_of, moment_of, moments_of, exit_of, required_at, recording_of, numbered_alone, read_moment, alone}
+use Rattle.dap_recording.specs.AloneLaw.{AloneIsTheOnlyOne, only, read_alone}
+use Rattle.dap_recording.specs.Reading.{Read, Numbered, none_numbered, or_bad, in_shape, value_at, element, few_items, some_items, each, each_source, sources_of, source_place, frame_source, new_id, frame_of, thread_of, moment_of, moments_of, exit_of, required_at, recording_of, numbered_alone, read_moment}
 use Rattle.dap_recording.specs.declared.reading.RecordingKey.TheVariants as key
 use Rattle.dap_recording.specs.declared.reading.Teller.TheVariants as teller
 use Rattle.dap_recording.specs.declared.recording.RecordedSource.{RecordedSource}
@@ -101,23 +101,7 @@ whole d sources m exit there moments =
     let some : some_items key.Moments d ≡ Ok (item m no_items) = ap (λ o. or_bad key.Moments (option_and_then as_array o) >>= (λ ds. if nat_le 1 (items_len ds) then Ok ds else Err key.Moments)) moments in
     rw (exit, few, some) (then_then _ (λ given. each_source given []) (λ xs. moments_of xs (item m no_items) none_numbered >>= (λ ms. Ok (made xs ms))))
 
--- the recording of one moment is that of the moment alone
-old_by : (sources : List RecordedSource) (r : Read (Moment × Numbered)) → (r >>= (λ moment. Ok (made sources (moment.0 ∷ [], moment.1)))) ≡ ((r >>= (λ moment. Ok (numbered_alone (length sources) moment))) >>= (λ s. Ok (only sources s)))
-old_by sources (Ok moment) = refl
-old_by sources (Err k) = refl
-
-same_alone : (sources : List RecordedSource) (m : Data) → alone sources m ≡ (read_moment sources m >>= (λ s. Ok (only sources s)))
-unfolding alone read_moment
-same_alone sources m = old_by sources (moment_of teller.Host sources m none_numbered)
-
-same_next : {A B : Type 0} (r : Read A) (f g : A → Read B) → ((x : A) → f x ≡ g x) → (r >>= f) ≡ (r >>= g)
-same_next (Ok x) f g same = same x
-same_next (Err k) f g same = refl
-
 pub alone_is_the_only_one : AloneIsTheOnlyOne
 alone_is_the_only_one d sources m exit there moments =
     subst (λ r. Near r (read_alone sources m)) (sym (whole d sources m exit there moments))
     (near_next (sources_of sources) (λ xs. moments_of xs (item m no_items) none_numbered >>= (λ ms. Ok (made xs ms))) (λ xs. read_moment xs m >>= (λ s. Ok (only xs s))) (λ xs. one_moment xs m))
-
-pub hosts_are_read_so : HostsAreReadSo
-hosts_are_read_so sources m = same_next (sources_of sources) (λ xs. alone xs m) (λ xs. read_moment xs m >>= (λ s. Ok (only xs s))) (λ xs. same_alone xs m)

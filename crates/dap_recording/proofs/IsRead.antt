@@ -13,7 +13,8 @@ use Rattle.dap_json.specs.Field.{if_passes, is_object}
 use Rattle.dap_json.specs.Steps.{◌>>=◌}
 use Rattle.dap_command.specs.Numbers.{is_int, int_of, number_of}
 use Rattle.dap_debuggee.specs.Laws.{is_place, is_frame}
-use Rattle.dap_recording.specs.Reading.{Read, Gives, or_fault, verdict_of, or_bad, required_at, optional_at, optional_or, element, value_at, some_items, few_items, few_in, exit_of, line_of, source_place, lines_at, short_text, in_shape, frame_source, frame_line, untold_of, stop_with, stop_of, none_numbered, place_of, new_id, thread_place, Numbered, each, each_source, scopes_of, frame_of, thread_of, moment_of, moments_of, source_of, sources_of, recording_of, numbered_alone, alone}
+use Rattle.dap_recording.specs.Reading.{Read, Gives, or_fault, verdict_of, or_bad, required_at, optional_at, optional_or, element, value_at, some_items, few_items, few_in, exit_of, line_of, source_place, lines_at, short_text, in_shape, frame_source, frame_line, untold_of, stop_with, stop_of, none_numbered, place_of, new_id, thread_place, Numbered, each, each_source, scopes_of, frame_of, thread_of, moment_of, moments_of, source_of, sources_at, recording_of, numbered_alone}
+use Rattle.dap_recording.specs.AloneLaw.{RecordingsAreFiles}
 use Rattle.dap_recording.specs.Snapshot.{IsAlone}
 use Rattle.dap_recording.specs.Recording.{objects_of, IsRecording, line_count, is_thread, is_moment, is_rising, are_distinct, is_short_text, is_short_stop, has_short_stop}
 use Rattle.dap_debuggee.specs.declared.answers.Frame.{Frame}
@@ -344,20 +345,20 @@ moments_more sources found s t m one p = record {
 }
 
 -- moments that are some, read over sources that hold
-recording_holds : (exit : ℤ) (by : Teller) (sources : List RecordedSource) (given : Items) (moments : List Moment × Numbered)
-    → length sources ≤ 65536 → list_all is_counted sources ≡ true → 1 ≤ items_len given → each (λ earlier. moment_of by sources) given [] none_numbered ≡ Ok moments
+recording_holds : (exit : ℤ) (sources : List RecordedSource) (given : Items) (moments : List Moment × Numbered)
+    → length sources ≤ 65536 → list_all is_counted sources ≡ true → 1 ≤ items_len given → each (λ earlier. moment_of teller.Recording sources) given [] none_numbered ≡ Ok moments
     → IsRecording (record { exit = exit; sources = sources; moments = moments.0; scopes = moments.1.scopes; variables = moments.1.variables; untold = moments.1.untold })
-recording_holds exit by sources given moments most counted least read =
-    let count = each_count (λ earlier. moment_of by sources) given [] none_numbered moments read in
-    let all = each_holds (λ earlier. moment_of by sources) (MomentsHold (length sources)) (λ found s x next is p. moments_more (length sources) found s next.1 next.0 (moment_holds by sources x s next is) p) given [] none_numbered moments read (record { moments = refl; stops = refl }) in
+recording_holds exit sources given moments most counted least read =
+    let count = each_count (λ earlier. moment_of teller.Recording sources) given [] none_numbered moments read in
+    let all = each_holds (λ earlier. moment_of teller.Recording sources) (MomentsHold (length sources)) (λ found s x next is p. moments_more (length sources) found s next.1 next.0 (moment_holds teller.Recording sources x s next is) p) given [] none_numbered moments read (record { moments = refl; stops = refl }) in
     record {
       sources = most;
       lines = counted;
       some = omega (arith, count, least);
       moments = all.moments;
       stops = all.stops;
-      holders = λ n. holders_once by sources given moments read n;
-      spans = spans_read by sources given moments read;
+      holders = λ n. holders_once teller.Recording sources given moments read n;
+      spans = spans_read teller.Recording sources given moments read;
     }
 
 pub is_read : (d : Data) (r : Recording) → recording_of d ≡ Ok r → IsRecording r
@@ -371,7 +372,7 @@ is_read d r e =
     let counted = sources_hold texts [] sources told refl in
     let most = few_count key.Sources d texts few in
     subst IsRecording (ok_same (record { exit = exit; sources = sources; moments = moments.0; scopes = moments.1.scopes; variables = moments.1.variables; untold = moments.1.untold }) r e5)
-    (recording_holds exit teller.Recording sources given moments (omega (arith, counted.1, most)) counted.0 (some_count key.Moments d given some) read))))))
+    (recording_holds exit sources given moments (omega (arith, counted.1, most)) counted.0 (some_count key.Moments d given some) read))))))
 
 -- one moment that was read holds by itself
 pub alone_holds : (sources : List RecordedSource) (d : Data) (m : Moment × Numbered) → moment_of teller.Host sources d none_numbered ≡ Ok m → IsAlone (numbered_alone (length sources) m)
@@ -398,34 +399,6 @@ sources_are_few k d given sources few told =
     let most = few_in_count k d given few in
     omega (arith, counted.1, most)
 
--- one moment, read over sources that hold
-pub old_alone_holds : (sources : List RecordedSource) (d : Data) (r : Recording) → alone sources d ≡ Ok r → length sources ≤ 65536 → list_all is_counted sources ≡ true → IsRecording r
-unfolding alone
-old_alone_holds sources d r e most counted =
-    with_ok (moment_of teller.Host sources d none_numbered) _ r e (λ moment read e1.
-    let moments : List Moment × Numbered = (moment.0 ∷ [], moment.1) in
-    let all : each (λ earlier. moment_of teller.Host sources) (item d no_items) [] none_numbered ≡ Ok moments =
-    ap (λ (x : Read (Moment × Numbered)). x >>= (λ next. each (λ earlier. moment_of teller.Host sources) no_items ([] ++ next.0 ∷ []) next.1)) read in
-    subst IsRecording (ok_same (record { exit = pos 0; sources = sources; moments = moments.0; scopes = moments.1.scopes; variables = moments.1.variables; untold = moments.1.untold }) r e1)
-    (recording_holds (pos 0) teller.Host sources (item d no_items) moments most counted (omega arith) all))
-
--- sources that were read hold
-sources_are_read : (d : Data) (sources : List RecordedSource) → sources_of d ≡ Ok sources → (length sources ≤ 65536) × (list_all is_counted sources ≡ true)
-sources_are_read d sources e =
-    with_ok (few_in key.Sources d) _ sources e (λ given few e1.
-    let counted = sources_hold given [] sources e1 refl in
-    let most = few_in_count key.Sources d given few in
-    (omega (arith, counted.1, most), counted.0))
-
-pub over_read : (ds d : Data) (result : Result Recording RecordingFault) (sources : List RecordedSource) → sources_of ds ≡ Ok sources → Gives result (alone sources d) → IfOk result (λ r. IsRecording r)
-over_read ds d (Ok r) sources read gives = let are = sources_are_read ds sources read in old_alone_holds sources d r gives are.0 are.1
-over_read ds d (Err fault) sources read gives = tt
-
-pub over_these : (these : Recording) (d : Data) (result : Result Recording RecordingFault) (sources : List RecordedSource) → sources ≡ these.sources → IsRecording these → Gives result (alone sources d) → IfOk result (λ r. IsRecording r)
-over_these these d (Ok r) sources same is gives =
-    old_alone_holds sources d r gives (subst (λ (xs : List RecordedSource). length xs ≤ 65536) (sym same) is.sources) (subst (λ (xs : List RecordedSource). list_all is_counted xs ≡ true) (sym same) is.lines)
-over_these these d (Err fault) sources same is gives = tt
-
 pub read_holds : (d : Data) (result : Result Recording RecordingFault) → Gives result (recording_of d) → IfOk result (λ r. IsRecording r)
 read_holds d (Ok r) gives = is_read d r gives
 read_holds d (Err fault) gives = tt
@@ -441,3 +414,24 @@ if_object false read r e = absurd (cc e)
 pub verdict_holds : (found : Option Data) (r : Recording) → verdict_of found ≡ Ok r → IsRecording r
 verdict_holds None r e = absurd (cc e)
 verdict_holds (Some d) r e = is_read d r (if_object (is_object d) (recording_of d) r e)
+
+-- ---- a file of sources
+
+own_sources : (d : Data) (r : Recording) → recording_of d ≡ Ok r → sources_at d ≡ Ok r.sources
+unfolding recording_of sources_at
+own_sources d r e =
+    with_ok (required_at exit_of key.Exit d) _ r e (λ exit exited e1.
+    with_ok (few_items key.Sources d) _ r e1 (λ texts few e2.
+    with_ok (each_source texts []) _ r e2 (λ sources told e3.
+    with_ok (some_items key.Moments d) _ r e3 (λ given some e4.
+    with_ok (moments_of sources given none_numbered) _ r e4 (λ moments read e5.
+    ap (λ (x : Read Items). x >>= (λ given. each_source given [])) few ∙ told
+    ∙ ap (λ (x : Recording). Ok x.sources) (ok_same (record { exit = exit; sources = sources; moments = moments.0; scopes = moments.1.scopes; variables = moments.1.variables; untold = moments.1.untold }) r e5))))))
+
+of_object : (b : Bool) (read : Read Recording) (sources : Read (List RecordedSource)) (r : Recording) → (read ≡ Ok r → sources ≡ Ok r.sources) → (if b then or_fault read else Err NotObject) ≡ Ok r → (if b then or_fault sources else Err NotObject) ≡ Ok r.sources
+of_object true read sources r own e = ap or_fault (own (or_ok read r e))
+of_object false read sources r own e = absurd (cc e)
+
+pub recordings_are_files : RecordingsAreFiles
+recordings_are_files None r e = absurd (cc e)
+recordings_are_files (Some d) r e = of_object (is_object d) (recording_of d) (sources_at d) r (own_sources d r) e

@@ -6,7 +6,6 @@ pub mod ReadSteps
 pub mod HoldersRead
 pub mod SpansRead
 pub mod IsRead
-pub mod Same
 pub mod AloneLemmas
 pub mod ReadingExamples
 pub mod ThreeMoments
@@ -14,6 +13,7 @@ pub mod RecordingExamples
 pub mod ShownExamples
 pub mod Ids
 pub mod Longest
+pub mod Holders
 pub mod Verified
 pub mod Threads
 pub mod First

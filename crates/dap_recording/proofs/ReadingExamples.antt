@@ -3,7 +3,7 @@ use Rattle.std.proofs.Common.{◌≡◌, List, ℕ, [], ◌∷◌, codes, true, 
 use Rattle.serde_json.specs.Data.{Data, boolean, null, number, unsigned, negative, string, array, object, Items, no_items, item, Members, no_members, put}
 use Rattle.dap_recording.proofs.IsRead.{is_read}
 use Rattle.dap_recording.proofs.ThreeMoments.{three_moments}
-use Rattle.dap_recording.specs.Reading.{Read, Numbered, none_numbered, recording_of, verdict_of, variables_of, source_of, moments_of, moment_of, thread_of, frame_of, scopes_of, scope_of, stop_of}
+use Rattle.dap_recording.specs.Reading.{Read, Numbered, none_numbered, recording_of, verdict_of, file_sources, sources_at, variables_of, source_of, moments_of, moment_of, thread_of, frame_of, scopes_of, scope_of, stop_of}
 use Rattle.dap_recording.specs.Recording.{IsRecording}
 use Rattle.dap_recording.specs.declared.reading.RecordingFault.TheVariants.{NotJson, NotObject, BadKey}
 use Rattle.dap_recording.specs.declared.reading.RecordingKey.TheVariants as key
@@ -281,3 +281,18 @@ untold_after_others : scopes_told (item (scope_with (codes "A") (one variable_p)
     )
 unfolding recording_of source_of moments_of moment_of thread_of frame_of scopes_of scope_of stop_of
 untold_after_others = refl
+
+-- ---- files of sources
+
+abbrev file : Data → Data
+file sources = object (put (codes "moments") (whole 7) (put (codes "sources") sources no_members))
+
+-- what else they have is not looked at
+files : (file_sources None ≡ Err NotJson) × (file_sources (Some none) ≡ Err NotObject) × (file_sources (Some (object no_members)) ≡ Err (BadKey key.Sources)) × (file_sources (Some (file null)) ≡ Err (BadKey key.Sources)) × (file_sources (Some (file (one none))) ≡ Err (BadKey key.Sources)) × (file_sources (Some (file none)) ≡ Ok [])
+unfolding sources_at source_of
+files = (refl, refl, refl, refl, refl, refl)
+
+-- a source needs no line
+empty_source : file_sources (Some (file (one (object (put (codes "name") (text (codes "a")) (put (codes "text") (text []) no_members)))))) ≡ Ok (record { name = codes "a"; path = None; text = []; on_disk = false; lines = 0 } ∷ [])
+unfolding sources_at source_of
+empty_source = refl

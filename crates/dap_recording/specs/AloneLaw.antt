@@ -1,8 +1,8 @@
--- What reading a moment alone has to do with reading a recording.
-use Rattle.std.specs.Prelude.{◌≡◌, ◌⊎◌, pos, List, [], ◌∷◌, Some, Ok, Err}
+-- What reading sources and a moment alone has to do with reading a recording.
+use Rattle.std.specs.Prelude.{◌≡◌, ◌⊎◌, pos, List, [], ◌∷◌, Option, Some, Ok, Err}
 use Rattle.serde_json.specs.Data.{Data, array, no_items, item}
 use Rattle.dap_json.specs.Steps.{◌>>=◌}
-use Rattle.dap_recording.specs.Reading.{Read, value_at, required_at, exit_of, recording_of, sources_of, read_moment, alone_over}
+use Rattle.dap_recording.specs.Reading.{Read, value_at, required_at, exit_of, recording_of, sources_of, read_moment, verdict_of, file_sources}
 use Rattle.dap_recording.specs.Snapshot.{MomentAlone}
 use Rattle.dap_recording.specs.declared.reading.RecordingKey.TheVariants as key
 use Rattle.dap_recording.specs.declared.recording.RecordedSource.{RecordedSource}
@@ -24,6 +24,6 @@ abbrev pub AloneIsTheOnlyOne : Type 0
 AloneIsTheOnlyOne = (d sources moment : Data) → required_at exit_of key.Exit d ≡ Ok (pos 0) → value_at key.Sources d ≡ Some sources → value_at key.Moments d ≡ Some (array (item moment no_items))
     → (recording_of d ≡ read_alone sources moment) ⊎ (recording_of d ≡ Err key.Source)
 
--- the recording of one moment that a host tells is that one
-abbrev pub HostsAreReadSo : Type 0
-HostsAreReadSo = (sources moment : Data) → alone_over sources moment ≡ read_alone sources moment
+-- A recording is a file of its own sources.
+abbrev pub RecordingsAreFiles : Type 0
+RecordingsAreFiles = (json : Option Data) (recording : Recording) → verdict_of json ≡ Ok recording → file_sources json ≡ Ok recording.sources

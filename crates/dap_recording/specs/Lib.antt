@@ -1,9 +1,13 @@
 pub mod Recording
 pub mod Sources
 pub mod Snapshot
+pub mod Variables
+pub mod VariableLaws
+pub mod SourceLaws
 pub mod RecordingKey
 pub mod Reading
 pub mod AloneLaw
 pub mod PrivatePaths
+pub mod PrivateHolders
 pub mod PrivateReadThreads
 pub mod PrivateOnePass

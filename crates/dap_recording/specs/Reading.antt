@@ -1,6 +1,6 @@
 -- Which recording JSON data is, or the first bad key in the order of the format's keys.
 -- The format is this profile's own. An absent key is absent; `null` is a value like any other.
-use Rattle.std.specs.Prelude.{◌≡◌, ℕ, suc, ◌&&◌, ℤ, pos, false, not, nat_le, nat_lt, List, [], ◌∷◌, ◌++◌, length, Option, Some, None, is_some, option_and_then, option_map, unwrap_or, Result, Ok, Err, if◌then◌else◌, Vec}
+use Rattle.std.specs.Prelude.{◌≡◌, ℕ, suc, ◌&&◌, ℤ, false, not, nat_le, nat_lt, List, [], ◌∷◌, ◌++◌, length, Option, Some, None, is_some, option_and_then, option_map, unwrap_or, Result, Ok, Err, if◌then◌else◌, Vec}
 use Rattle.std.specs.Borrow.{Bor}
 use Rattle.std.specs.declared.alloc.Global.{Global}
 use Rattle.std.specs.List.{slice_get}
@@ -332,29 +332,32 @@ read_moment sources d = do
   moment ← moment_of teller.Host sources d none_numbered
   Ok (numbered_alone (length sources) moment)
 
--- the recording of one moment that a host tells, over sources that were read
-unfoldable pub alone : List RecordedSource → Data → Read Recording
-alone sources d = do
-  moment ← moment_of teller.Host sources d none_numbered
-  Ok (record { exit = pos 0; sources = sources; moments = moment.0 ∷ []; scopes = moment.1.scopes; variables = moment.1.variables; untold = moment.1.untold })
-
-abbrev pub alone_over : Data → Data → Read Recording
-alone_over sources d = do
-  read ← sources_of sources
-  alone read d
+-- those of an object, whatever else it has
+unfoldable pub sources_at : Data → Read (List RecordedSource)
+sources_at d = do
+  given ← few_items key.Sources d
+  each_source given []
 
 abbrev pub or_fault : {A : Type 0} → Read A → Result A RecordingFault
 or_fault (Ok r) = Ok r
 or_fault (Err k) = Err (BadKey k)
 
--- the recording that bytes are, once they were read as JSON, or why they are none
+-- what bytes are, once they were read as JSON, or why they are none
+abbrev pub verdict_by : {A : Type 0} → (Data → Read A) → Option Data → Result A RecordingFault
+verdict_by read None = Err NotJson
+verdict_by read (Some d) = if is_object d then or_fault (read d) else Err NotObject
+
+-- the recording that they are
 abbrev pub verdict_of : Option Data → Result Recording RecordingFault
-verdict_of None = Err NotJson
-verdict_of (Some d) = if is_object d then or_fault (recording_of d) else Err NotObject
+verdict_of json = verdict_by recording_of json
+
+-- the sources of the file that they are
+abbrev pub file_sources : Option Data → Result (List RecordedSource) RecordingFault
+file_sources json = verdict_by sources_at json
 
 -- What was read is the verdict, unless memory ran out.
-abbrev pub IsVerdict : Result Recording RecordingFault → Result Recording RecordingFault → Type 0
-IsVerdict (Ok recording) verdict = verdict ≡ Ok recording
+abbrev pub IsVerdict : {A : Type 0} → Result A RecordingFault → Result A RecordingFault → Type 0
+IsVerdict (Ok x) verdict = verdict ≡ Ok x
 IsVerdict (Err NotJson) verdict = verdict ≡ Err NotJson
 IsVerdict (Err NotObject) verdict = verdict ≡ Err NotObject
 IsVerdict (Err (BadKey k)) verdict = verdict ≡ Err (BadKey k)

@@ -1,9 +1,14 @@
 //! Laws of reading. Each function is empty: its contract is the law.
-ghost use Rattle.dap_recording.specs.AloneLaw.{AloneIsTheOnlyOne, HostsAreReadSo};
+ghost use Rattle.dap_recording.specs.AloneLaw.{AloneIsTheOnlyOne, RecordingsAreFiles};
 
 /// A moment over sources is read as the only one of a recording.
-#[tactic(auto, using(crate::proofs::AloneLemmas::alone_is_the_only_one, crate::proofs::AloneLemmas::hosts_are_read_so))]
+#[tactic(auto, using(crate::proofs::AloneLemmas::alone_is_the_only_one))]
 pub fn alone_is_the_only_one()
     ensures only { AloneIsTheOnlyOne }
-    ensures hosts { HostsAreReadSo }
+{}
+
+/// A recording is a file of its own sources.
+#[tactic(auto, using(crate::proofs::IsRead::recordings_are_files))]
+pub fn recordings_are_files()
+    ensures { RecordingsAreFiles }
 {}

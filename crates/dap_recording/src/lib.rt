@@ -1,8 +1,9 @@
 //! Recordings of a run: what one is, what sources and a moment show, and how bytes are read.
 //!
 //! [`Recording::read`] gives the sources and the moments that a recording holds, or the first key of the format that is bad.
-//! [`Sources::read`] and [`Snapshot::read`] read sources alone, and a moment alone over a number of them, by the same functions.
-//! This crate knows the format of recordings, and what sources and a moment show; it must not know how a recording is played.
+//! [`Sources::read`] and [`Snapshot::read`] read sources alone, and a moment alone over a number of them, by the same functions;
+//! `variables` has what debuggees do with the variables of a moment. This crate knows the format of recordings, and what sources
+//! and a moment show; it must not know how a recording is played, nor who tells a moment.
 #![tactic(auto)]
 
 mod alone;
@@ -19,6 +20,7 @@ pub mod shown;
 mod snapshot;
 mod sources;
 mod texts;
+pub mod variables;
 
 pub use dap_json::List;
 pub use reading::{RecordingFault, RecordingKey};

@@ -2,7 +2,7 @@
 ghost use Rattle.std.specs.Prelude.{◌≡◌, ◌++◌, [], IfOk, OnOk};
 ghost use Rattle.serde_json.specs.View.{view, items_view};
 ghost use Rattle.dap_recording.specs.declared.reading.RecordingKey.TheVariants as key;
-ghost use Rattle.dap_recording.specs.Reading.{Numbered, GivesListWith, GivesList, Gives, GivesWith, none_numbered, untold_of, stop_of, frame_source as frame_source_of, frame_line as frame_line_of, value_at, required_at, read_variables, variable_row, variables_of, holder_of, with_holder, each, each_source, scope_of, scopes_of, frame_of, thread_of, moment_of, moments_of, source_of, recording_of, source_place as source_place_of, line_of, lines_at, place_of, new_id as new_id_of, thread_place as thread_place_of, sources_of, read_moment, alone as alone_of};
+ghost use Rattle.dap_recording.specs.Reading.{Numbered, GivesListWith, GivesList, Gives, GivesWith, none_numbered, untold_of, stop_of, frame_source as frame_source_of, frame_line as frame_line_of, value_at, required_at, read_variables, variable_row, variables_of, holder_of, with_holder, each, each_source, scope_of, scopes_of, frame_of, thread_of, moment_of, moments_of, source_of, recording_of, source_place as source_place_of, line_of, lines_at, place_of, new_id as new_id_of, thread_place as thread_place_of, sources_of, sources_at as sources_at_of, read_moment};
 
 use crate::read_threads::ReadThreads;
 use crate::reading::{RecordingFault, RecordingKey, Teller, bad};
@@ -526,6 +526,16 @@ pub(crate) fn sources_in(texts: &mut Texts, value: &Value) -> Result<Sources, Re
     Ok(Sources::new(texts.alloc, sources)?)
 }
 
+/// The sources of an object.
+#[tactic(auto, unfolding(crate::specs::Reading::sources_at))]
+pub(crate) fn sources_at(texts: &mut Texts, value: &Value) -> Result<Sources, RecordingFault>
+    ensures { Gives result (sources_at_of (view value.now)) }
+{
+    let items = reading::few_items(value, RecordingKey::Sources)?;
+    let sources = sources(texts, items)?;
+    Ok(Sources::new(texts.alloc, sources)?)
+}
+
 /// One moment over sources.
 #[tactic(auto, unfolding(crate::specs::Reading::read_moment))]
 pub(crate) fn moment_alone(
@@ -538,20 +548,4 @@ pub(crate) fn moment_alone(
     let mut numbers = Numbers::new(texts.alloc);
     let moment = moment(texts, Teller::Host, sources, value, &mut numbers)?;
     Ok(numbers.into_snapshot(moment, sources.len()))
-}
-
-/// The recording of one moment over sources.
-#[tactic(auto, unfolding(crate::specs::Reading::alone))]
-pub(crate) fn alone(
-    texts: &mut Texts,
-    sources: Sources,
-    value: &Value,
-) -> Result<Recording, RecordingFault>
-    ensures { Gives result (alone_of sources (view value.now)) }
-{
-    let mut numbers = Numbers::new(texts.alloc);
-    let moment = moment(texts, Teller::Host, sources.as_slice(), value, &mut numbers)?;
-    let mut moments = Vec::with_capacity(texts.alloc, 1)?;
-    moments.push(moment)?;
-    Ok(numbers.into_recording(0, sources, moments))
 }

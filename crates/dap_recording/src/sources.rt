@@ -2,6 +2,7 @@
 ghost use Rattle.std.specs.Prelude.{◌≡◌, ◌&&◌, nat_le, ◌++◌, IfOk, OnOk, map, option_map};
 ghost use Rattle.dap_recording.specs.Sources.{source_shown};
 
+use crate::numbers::MAX_SOURCES;
 use crate::paths;
 use crate::paths::Paths;
 use crate::recording::RecordedSource;
@@ -32,7 +33,7 @@ impl Model for Sources {
 }
 
 impl Sources {
-    ghost use Rattle.std.specs.Prelude.{◌≤◌, ◌+◌, length};
+    ghost use Rattle.std.specs.Prelude.{◌≤◌, ◌↔◌, ◌+◌, length, IsTrue};
     ghost use Rattle.std.specs.List.{slice_get};
     ghost use Rattle.std.specs.Option.{IsSome};
     ghost use Rattle.std.specs.Prelude.{IsErrOf};
@@ -73,6 +74,13 @@ impl Sources {
         ensures { length self.now ≤ 65536 }
     {
         let _ = &self.held;
+    }
+
+    /// Whether there is room for others behind these.
+    pub fn has_room(&self, more: &Sources) -> bool
+        ensures { IsTrue result ↔ length self.now + length more.now ≤ 65536 }
+    {
+        self.len().saturating_add(more.len()) <= MAX_SOURCES
     }
 
     /// These, and others behind them. It takes time in proportion to all of them; texts that are shared are not copied.

@@ -11,5 +11,4 @@ pub mod MovesExamples
 pub mod PlayedExamples
 pub mod PollsExamples
 pub mod Telling
-pub mod Wider
 pub mod Stops

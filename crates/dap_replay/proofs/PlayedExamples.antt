@@ -6,7 +6,7 @@ use Rattle.dap_recording.proofs.ReadingExamples.{three_moments_is_recording}
 use Rattle.dap_recording.proofs.ThreeMoments.{three_moments}
 use Rattle.dap_replay.proofs.Told.{told_can_be_asked}
 use Rattle.dap_debuggee.specs.Shown.{Act, to_start, to_resume, to_pause, to_poll, to_set_breakpoints, to_assign, to_end, Reply, done, refused, happened}
-use Rattle.dap_replay.specs.Played.{Played, is_untold, with_variables, fresh_played, act_on, with_ask, shown_of, piece_length, first_piece, output_of}
+use Rattle.dap_replay.specs.Played.{Played, with_variables, fresh_played, act_on, with_ask, shown_of, piece_length, first_piece, output_of}
 use Rattle.dap_replay.specs.Moves.{plain_stop}
 use Rattle.dap_replay.specs.ShownNumbers.{ShownCanBeAsked}
 use Rattle.dap_debuggee.specs.declared.answers.State.TheVariants.{NotStarted, Running, Stopped, Gone}
@@ -212,11 +212,6 @@ held_before_a_stop : replies (started (writing false [] ∷ writing true [] ∷ 
     (go Continue ∷ to_poll ∷ to_pause ∷ to_poll ∷ go Continue ∷ to_poll ∷ [])
     ≡ done ∷ nothing ∷ done ∷ stopped (codes "pause") ∷ done ∷ stopped (codes "signal") ∷ []
 held_before_a_stop = refl
-
--- ---- scopes that were told without their variables
-
-untold : (is_untold fresh 0 ≡ false) × (is_untold (fresh_played (record three_moments { untold = 4 ∷ 7 ∷ [] })) 7 ≡ true) × (is_untold (fresh_played (record three_moments { untold = 4 ∷ 7 ∷ [] })) 5 ≡ false)
-untold = (refl, refl, refl)
 
 abbrev with_scopes : List Scope → List (List Variable) → Played
 with_scopes scopes variables = fresh_played (record { exit = pos 0; sources = []; moments = three_moments.moments; scopes = scopes ∷ []; variables = variables; untold = [] })

@@ -2,8 +2,6 @@ pub mod Moves
 pub mod Played
 pub mod PrivateSetLines
 pub mod PrivateHeld
-pub mod VariableLaws
-pub mod SourceLaws
 pub mod PlayedLaws
 pub mod Polls
 pub mod PlainMoves

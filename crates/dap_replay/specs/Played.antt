@@ -9,9 +9,10 @@ use Rattle.dap_debuggee.specs.Laws.{variable_named, with_value}
 use Rattle.dap_recording.specs.Recording.{id_at}
 use Rattle.dap_recording.specs.Reading.{IsVerdict}
 pub use Rattle.dap_recording.specs.Snapshot.{is_in, thread_shown}
-use Rattle.dap_recording.specs.Snapshot.{if_in, frames_in, is_among}
+use Rattle.dap_recording.specs.Snapshot.{if_in, frames_in}
 pub use Rattle.dap_recording.specs.Sources.{source_shown, path_has_line, source_has_line, has_source_line}
 use Rattle.dap_recording.specs.Sources.{text_at, lines_verified}
+pub use Rattle.dap_recording.specs.Variables.{OfHolder, variables_at, with_variables, first_of, evaluation, assigned_of}
 use Rattle.dap_recording.specs.declared.reading.RecordingFault.{RecordingFault}
 use Rattle.dap_replay.specs.Moves.{move_of, is_forward, stop_at}
 use Rattle.dap_debuggee.specs.declared.answers.State.{State}
@@ -41,11 +42,6 @@ pub record Run : Type 0 where
   pub move : Move
   pub paused : Bool
 
--- all variables of a holder
-pub record OfHolder : Type 0 where
-  pub holder : ℕ
-  pub variables : List Variable
-
 pub record Played : Type 0 where
   pub recording : Recording
   pub state : State
@@ -66,21 +62,6 @@ abbrev pub lines_in : List (OfSource ℕ) → SourceKey → List ℕ
 lines_in set key = set_of key set
 
 -- ---- values that were set
-
-abbrev pub variables_at : ℕ → List OfHolder → Option (List Variable)
-variables_at holder [] = None
-variables_at holder (c ∷ changed) = if nat_eq holder c.holder then Some c.variables else variables_at holder changed
-
-abbrev pub with_variables : ℕ → List Variable → List OfHolder → List OfHolder
-with_variables holder variables [] = record { holder = holder; variables = variables } ∷ []
-with_variables holder variables (c ∷ changed) =
-    if nat_lt holder c.holder then record { holder = holder; variables = variables } ∷ c ∷ changed
-    else (if nat_eq holder c.holder then record { holder = c.holder; variables = variables } ∷ changed
-    else c ∷ with_variables holder variables changed)
-
-abbrev pub first_of : {A : Type 0} → Option A → Option A → Option A
-first_of None other = other
-first_of (Some x) other = Some x
 
 -- a value that was set lies on top of the recording
 abbrev pub variables_held : Played → ℕ → Option (List Variable)
@@ -229,10 +210,6 @@ scopes_shown v frame = if_within (λ m. m.frames) (moment_shown v) frame (slice_
 abbrev pub children_shown : Played → ℕ → Option (List Variable)
 children_shown v holder = if_within (λ m. m.holders) (moment_shown v) holder (variables_held v holder)
 
--- the holder of a scope that was told without its variables
-abbrev pub is_untold : Played → ℕ → Bool
-is_untold v holder = is_among holder v.recording.untold
-
 abbrev pub frames_of : Played → ℤ → Option (List Frame)
 frames_of v id = frames_in (threads_at v) id
 
@@ -241,16 +218,9 @@ abbrev pub value_in : (ℕ → Option (List Variable)) → List ℕ → List Sco
 value_in held name [] = None
 value_in held name (scope ∷ scopes) = first_of (variable_named name (unwrap_or (held scope.holder) [])) (value_in held name scopes)
 
-abbrev pub evaluation : Variable → Evaluation
-evaluation variable = record { value = variable.value; holder = variable.holder }
-
 abbrev pub evaluation_in : Played → Option ℕ → List ℕ → Option Evaluation
 evaluation_in v None name = None
 evaluation_in v (Some frame) name = option_map evaluation (option_and_then (value_in (variables_held v) name) (scopes_shown v frame))
-
--- the value is the text, where one of the variables has the name
-abbrev pub assigned_of : List ℕ → List ℕ → Option (List Variable) → Option Assigned
-assigned_of name text variables = option_map (λ variable. record { value = text }) (option_and_then (variable_named name) variables)
 
 abbrev pub assigned_in : Played → ℕ → List ℕ → List ℕ → Option Assigned
 assigned_in v holder name text = assigned_of name text (children_shown v holder)
@@ -284,12 +254,6 @@ pub record FollowsPlayed (v : Played) (a : Act) (r : Reply) (w : Played) : Type 
   pub allowed : IsAllowed v a
   pub reply : r ≡ (act_on a v).0
   pub view : w ≡ with_ask a r (act_on a v).1
-
--- ---- sources that come later
-
--- those of another recording come behind those there are
-abbrev pub with_sources_of : Played → Played → Played
-with_sources_of more v = let r : Recording = v.recording in record v { recording = record r { sources = r.sources ++ more.recording.sources } }
 
 -- ---- as it begins
 

@@ -1,5 +1,5 @@
 -- A recorded debuggee keeps the laws of every debuggee.
-use Rattle.std.proofs.Common.{◌≡◌, ℕ, ◌+◌, ◌%◌, ◌^◌, ℤ, Bool, true, false, ◌&&◌, not, nat_lt, nat_eq, if◌then◌else◌, List, [], ◌∷◌, length, map, Option, Some, None, IsTrue, refl, sym, ap, subst, suc, option_map, unwrap_or, ◌∙◌, true≢false}
+use Rattle.std.proofs.Common.{◌≡◌, ℕ, ◌+◌, ◌%◌, ◌^◌, ℤ, Bool, true, false, ◌&&◌, not, nat_lt, nat_eq, if◌then◌else◌, List, [], ◌∷◌, length, map, Option, Some, None, IsTrue, refl, sym, ap, subst, option_map, unwrap_or, ◌∙◌, true≢false}
 use Rattle.std.proofs.lemmas.Bool.{eqb-true}
 use Rattle.std.specs.List.{slice_get}
 use Rattle.std.specs.Option.{IsSome}
@@ -7,7 +7,8 @@ use Rattle.dap_command.specs.declared.source_key.SourceKey.{SourceKey}
 use Rattle.dap_debuggee.specs.Shown.{Act, to_start, to_resume, to_pause, to_poll, to_set_breakpoints, to_assign, to_end, Reply, done, refused, happened}
 use Rattle.dap_debuggee.specs.Laws.{may_answer, state_after, keeps_answers, keeps_frames, lines_after, Counts, Remembers, Answers, Moves, SetsLines, SetsValues, SetsWhatIsTold, KeepsAnswers, KeepsFrames, KeepsSources, SameFrames, SameSources, NoThreads, VerifiesEach, AssignsVariables, with_value}
 use Rattle.dap_debuggee.specs.StayLaws.{frames-stay, sources-stay}
-use Rattle.dap_replay.specs.VariableLaws.{variables-put, variables-of_others, named-in, assigned-by, assigned-there}
+use Rattle.dap_recording.specs.SourceLaws.{each-verified}
+use Rattle.dap_recording.specs.VariableLaws.{variables-put, variables-of_others, named-in, assigned-by, assigned-there}
 use Rattle.dap_replay.specs.Played.{Played, Run, variables_at, assigned_of, variables_held, first_of, if_within, is_in, moment_shown, children_shown, after_assign, act_on, with_ask, after_start, after_resume, start_in, resume_in, pause_in, poll_result, step_of_run, end_of_run, with_run, with_pause, with_lines, at_rest, with_source_lines, lines_in, first_piece, shown_of, has_source_line, source_shown, FollowsPlayed}
 use Rattle.dap_debuggee.specs.declared.answers.Assigned.{Assigned}
 use Rattle.dap_debuggee.specs.declared.answers.Variable.{Variable}
@@ -373,12 +374,8 @@ keeps_frames-played v w a r f keeps = frames-stay (shown_of v) (shown_of w) (sam
 pub no_threads-played : NoThreads shown_of
 no_threads-played v = (λ is. rw is, λ is. rw is)
 
-length_map : {A B : Type 0} (f : A → B) (xs : List A) → length (map f xs) ≡ length xs
-length_map f [] = refl
-length_map f (x ∷ xs) = ap suc (length_map f xs)
-
 pub verifies_each-played : VerifiesEach shown_of
-verifies_each-played v source lines answers is = sym (ap (λ o. length (unwrap_or o [])) is) ∙ length_map (has_source_line v.recording.sources source) lines
+verifies_each-played v source lines answers is = sym (ap (λ o. length (unwrap_or o [])) is) ∙ each-verified v.recording.sources source lines
 
 sources_same : (v w : Played) → w.recording ≡ v.recording → SameSources (shown_of v) (shown_of w)
 sources_same v w is = record {

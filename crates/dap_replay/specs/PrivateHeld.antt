@@ -72,13 +72,6 @@ IsReady moments g = (output_left moments g ≡ []) ⊎ ((g.moment ≤ g.last) ×
 abbrev pub rest_of : Going → Run
 rest_of g = record { output = []; move = g.to; paused = g.paused }
 
--- the variables of each holder
-abbrev pub of_holder : {A : Type 0} → ℕ × Vec Variable A → OfHolder
-of_holder e = record { holder = e.0; variables = e.1.items }
-
-abbrev pub entries_of : {A : Type 0} → BTreeMap ℕ (Vec Variable A) → List OfHolder
-entries_of m = map of_holder m.entries
-
 -- what holds the children of each variable
 abbrev pub holders_in : List Variable → List (Option ℕ)
 holders_in variables = map (λ variable. variable.holder) variables

@@ -1,9 +1,9 @@
 //! What a recorded debuggee does when it is asked.
 
 use crate::recorded::{Going, LastAsked, Recorded};
-use crate::variables;
 use dap_command::SourceKey;
 use dap_debuggee::{Asked, DebuggeeFault, How, State};
+use dap_recording::variables;
 use std::alloc::{AllocError, Global};
 
 impl Recorded {

@@ -7,7 +7,6 @@
 
 mod acts;
 mod laws;
-mod more_sources;
 mod moves;
 mod polls;
 mod queries;
@@ -15,7 +14,6 @@ mod read;
 mod recorded;
 mod run;
 mod set_lines;
-pub mod variables;
 
 pub use dap_json::List;
 pub use laws::{

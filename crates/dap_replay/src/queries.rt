@@ -1,10 +1,9 @@
 //! What a recorded debuggee tells of the moment that it shows.
 
 use crate::recorded::Recorded;
-use crate::variables;
 use dap_debuggee::{Assigned, DebuggeeFault, Evaluation, Frame, Scope, State, Thread, Variable};
 use dap_json::Text;
-use dap_recording::{Moment, RecordedThread, shown};
+use dap_recording::{Moment, RecordedThread, shown, variables};
 use std::alloc::{AllocError, Global};
 
 impl Recorded {
@@ -36,7 +35,7 @@ impl Recorded {
     }
 
     /// The scopes of a frame of the moment that is shown.
-    pub fn scopes_at(&self, frame: u64) -> Option<&[Scope]>
+    fn scopes_at(&self, frame: u64) -> Option<&[Scope]>
         ensures { option_map (λ s. s.now) result ≡ (shown_of self.now).scopes frame }
     {
         let moment = self.moment()?;
@@ -81,7 +80,7 @@ impl Recorded {
     }
 
     /// The variables of a holder of the moment that is shown.
-    pub fn children_at(&self, holder: u64) -> Option<&[Variable]>
+    fn children_at(&self, holder: u64) -> Option<&[Variable]>
         ensures { option_map (λ v. v.now) result ≡ (shown_of self.now).children holder }
     {
         let moment = self.moment()?;

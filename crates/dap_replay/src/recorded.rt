@@ -8,14 +8,14 @@ ghost use Rattle.dap_recording.specs.Recording.{IsRecording};
 use crate::moves;
 use crate::moves::{Move, Plan, Reason};
 use crate::set_lines::SetLines;
-use crate::variables::HolderMap;
 use dap_command::SourceKey;
 use dap_debuggee::{
     Asked, Assigned, Debuggee, DebuggeeFault, Evaluation, Frame, Happening, How, Scope, Source,
     State, Thread, Variable,
 };
 use dap_json::Text;
-use dap_recording::{Recording, shown};
+use dap_recording::Recording;
+use dap_recording::variables::HolderMap;
 use std::alloc::{AllocError, Global};
 use std::marker::Model;
 
@@ -99,7 +99,7 @@ impl Model for Recorded {
 impl Recorded {
     ghost use Rattle.std.specs.Prelude.{IfOk};
     ghost use Rattle.std.specs.Option.{IsSome};
-    ghost use Rattle.dap_replay.specs.Played.{fresh_played, after_start, after_resume, is_untold as is_untold_in};
+    ghost use Rattle.dap_replay.specs.Played.{fresh_played, after_start, after_resume};
     ghost use Rattle.dap_recording.specs.Recording.{IsRecording};
     ghost use Rattle.dap_replay.specs.PrivateHeld.{after_act, KeepHolders};
     ghost use Rattle.dap_replay.specs.Played.{shown_of};
@@ -153,21 +153,6 @@ impl Recorded {
         ensures { self.now.state ≡ State.Running → IsSome self.now.run }
     {
         let _ = &self.going;
-    }
-
-    /// How many sources it has.
-    #[tactic(auto, using(crate::proofs::Ranges::length_map))]
-    pub fn source_count(&self) -> usize
-        ensures { result ≡ length (shown_of self.now).sources }
-    {
-        self.recording.sources.len()
-    }
-
-    /// Whether a holder is that of a scope of the recording that was told without its variables.
-    pub fn is_untold(&self, holder: u64) -> bool
-        ensures { result ≡ is_untold_in self.now holder }
-    {
-        shown::is_one_of(self.recording.untold.as_slice(), holder)
     }
 
     /// No two scopes or variables have one number of a holder. There is nothing to run.

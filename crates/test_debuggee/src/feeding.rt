@@ -17,7 +17,7 @@ use crate::telling::{Query, add_told};
 use dap_debuggee::{HasMail, Variable};
 use dap_json::{List, Text};
 use dap_live::{Coming, Dropped, HostAct, Live, Mail};
-use dap_replay::Recorded;
+use dap_recording::{Recording, Snapshot, Sources, Texts};
 use std::alloc::Global;
 use std::test::Fail;
 
@@ -25,21 +25,34 @@ use std::test::Fail;
 const TWO_SCOPES: &str =
     r#"{"exit":0,"sources":[{"name":"a.c","path":"/a.c","text":"one\n"}],"moments":[{"thread":1,"threads":[{"id":1,"name":"main","frames":[{"name":"main","source":0,"line":1,"scopes":[{"name":"Locals"},{"name":"Globals","variables":[{"name":"x","value":"1"}]}]}]}]}]}"#;
 
-fn two_scopes(alloc: Global) -> Option<Recorded> {
-    Recorded::read(alloc, TWO_SCOPES.as_bytes()).ok()
+/// The first moment of a recording.
+fn moment_of(alloc: Global, recording: &str) -> Option<Snapshot> {
+    match Recording::read(alloc, recording.as_bytes()) {
+        Ok(recording) => Some(Snapshot::first_of(recording)),
+        Err(_) => None,
+    }
 }
 
-fn first_scope_empty(alloc: Global) -> Option<Recorded> {
+fn two_scopes(alloc: Global) -> Option<Snapshot> {
+    moment_of(alloc, TWO_SCOPES)
+}
+
+fn first_scope_empty(alloc: Global) -> Option<Snapshot> {
     let (before, after) = TWO_SCOPES.split_once(r#""Locals""#)?;
     let told = format!(in alloc; r#"{before}"Locals","variables":[]{after}"#).ok()?;
-    Recorded::read(alloc, told.as_str().as_bytes()).ok()
+    moment_of(alloc, told.as_str())
+}
+
+fn its_sources(alloc: Global) -> Option<Sources> {
+    let mut texts = Texts::new(alloc, 0).ok()?;
+    Sources::of_file(&mut texts, TWO_SCOPES.as_bytes()).ok()
 }
 
 fn text(alloc: Global, text: &str) -> Option<Text> {
     Text::copied(alloc, text).ok()
 }
 
-fn stop(alloc: Global, shows: Recorded, later: bool) -> Option<Coming> {
+fn stop(alloc: Global, shows: Snapshot, later: bool) -> Option<Coming> {
     Some(Coming::Stopped {
         reason: text(alloc, "step")?,
         thread: 1,
@@ -79,7 +92,7 @@ fn learned(alloc: Global, words: &str) -> Option<Coming> {
 }
 
 fn sources(alloc: Global) -> Option<Coming> {
-    Some(Coming::Sources(two_scopes(alloc)?))
+    Some(Coming::Sources(its_sources(alloc)?))
 }
 
 /// What a word tells.
@@ -193,10 +206,10 @@ fn is_answered(alloc: Global, live: &mut Live, words: &str, wanted: &str) -> boo
 
 /// Whether a fresh debuggee answers so.
 fn is_fed(alloc: Global, words: &str, wanted: &str) -> bool {
-    let Some(base) = two_scopes(alloc) else {
+    let Some(sources) = its_sources(alloc) else {
         return false;
     };
-    let mut live = Live::open(alloc, base);
+    let mut live = Live::open(alloc, sources);
     let is_so = is_answered(alloc, &mut live, words, wanted);
     drop(live);
     is_so

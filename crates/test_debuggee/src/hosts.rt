@@ -1,10 +1,8 @@
-//! Moments that a host tells, over the sources of a file of two lines.
+//! Moments that a host tells, over the sources of a file of two lines, and the files that have sources.
 
-use crate::playing::is_played;
-use crate::telling::{Query, add_frames, add_sources, is_told};
+use crate::telling::{add_frames, add_sources};
 use dap_json::{Tree, parse};
 use dap_recording::{Recording, RecordingFault, Snapshot, Sources, Texts};
-use dap_replay::Recorded;
 use std::alloc::Global;
 
 const SOURCES: &str = r#"[{"name":"a.c","text":"one\ntwo\n"}]"#;
@@ -26,29 +24,6 @@ fn moment(alloc: Global, frames: &str) -> Option<Tree> {
     tree(alloc, text.as_str())
 }
 
-/// Whether its frames are told so once it is started, or it is refused for this key.
-fn is_read(alloc: Global, frames: &str, wanted: &str) -> bool {
-    let Some(sources) = tree(alloc, SOURCES) else {
-        return false;
-    };
-    let Some(moment) = moment(alloc, frames) else {
-        return false;
-    };
-    let Ok(mut texts) = Texts::new(alloc, 0) else {
-        return false;
-    };
-    match Recorded::of_parts(alloc, &mut texts, &sources, &moment) {
-        Ok(mut recorded) => {
-            let is_so = is_played(alloc, &mut recorded, "start", "done; ")
-                && is_told(alloc, &recorded, Query::Frames(1), wanted);
-            drop(recorded);
-            is_so
-        }
-        Err(RecordingFault::BadKey { key }) => key.name() == wanted,
-        Err(_) => false,
-    }
-}
-
 /// Whether the frames of thread 1 are these.
 fn is_shown(alloc: Global, shows: &Snapshot, wanted: &str) -> bool {
     let Ok(frames) = shows.frames(alloc, 1) else {
@@ -58,8 +33,8 @@ fn is_shown(alloc: Global, shows: &Snapshot, wanted: &str) -> bool {
     add_frames(&mut told, &frames) && told.as_str() == wanted
 }
 
-/// The same of a moment that is read alone, over sources that are.
-fn is_read_alone(alloc: Global, frames: &str, wanted: &str) -> bool {
+/// Whether its frames are told so, or it is refused for this key.
+fn is_read(alloc: Global, frames: &str, wanted: &str) -> bool {
     let (Some(sources), Some(moment)) = (tree(alloc, SOURCES), moment(alloc, frames)) else {
         return false;
     };
@@ -100,20 +75,13 @@ fn frames(rt: HostRuntime) {
     }
 }
 
-#[test]
-fn frames_alone(rt: HostRuntime) {
-    for (frames, wanted) in &FRAMES {
-        assert!(rt; is_read_alone(rt.alloc(), frames, wanted), "{frames}");
-    }
-}
-
 /// A recording of one source and one moment, with a scope that comes without its variables.
 const RECORDED: &str =
     r#"{"exit":0,"sources":[{"name":"a.c","path":"/a.c","text":"one\n"}],"moments":[{"thread":1,"threads":[{"id":1,"name":"main","frames":[{"name":"f","source":0,"line":1,"scopes":[{"name":"Locals"},{"name":"Globals","variables":[{"name":"x","value":"1"}]}]}]}]}]}"#;
 
 /// Whether its sources, and once more those behind them, are shown so.
 fn are_sources(alloc: Global, sources: &Sources) -> bool {
-    if sources.len() != 1 {
+    if sources.len() != 1 || !sources.has_room(sources) {
         return false;
     }
     let Ok(two) = sources.with(alloc, sources) else {
@@ -153,4 +121,38 @@ fn is_apart(alloc: Global) -> bool {
 #[test]
 fn sources_and_a_moment(rt: HostRuntime) {
     assert!(rt; is_apart(rt.alloc()));
+}
+
+/// How many sources a file has, or what it is refused for.
+fn are_in_file(alloc: Global, file: &str, count: usize, key: &str) -> bool {
+    let Ok(mut texts) = Texts::new(alloc, 0) else {
+        return false;
+    };
+    match Sources::of_file(&mut texts, file.as_bytes()) {
+        Ok(sources) => key.is_empty() && sources.len() == count,
+        Err(RecordingFault::BadKey { key: bad }) => bad.name() == key,
+        Err(RecordingFault::NotJson) => key == "JSON",
+        Err(RecordingFault::NotObject) => key == "object",
+        Err(RecordingFault::OutOfMemory) => false,
+    }
+}
+
+static FILES: [(&str, usize, &str); 9] = [
+    (RECORDED, 1, ""),
+    // Nothing else is looked at, and a source needs no line.
+    (r#"{"moments":7,"sources":[{"name":"a","text":""}]}"#, 1, ""),
+    (r#"{"sources":[]}"#, 0, ""),
+    (r#"{"sources":null}"#, 0, "sources"),
+    (r#"{"exit":0}"#, 0, "sources"),
+    (r#"{"sources":[7]}"#, 0, "sources"),
+    (r#"{"sources":[{"name":"a"}]}"#, 0, "text"),
+    ("[]", 0, "object"),
+    ("{", 0, "JSON"),
+];
+
+#[test]
+fn files(rt: HostRuntime) {
+    for (file, count, key) in &FILES {
+        assert!(rt; are_in_file(rt.alloc(), file, *count, key), "{file}");
+    }
 }

@@ -1,22 +1,14 @@
 use Rattle.std.proofs.Common.{refl, ◌∙◌}
 use Rattle.std.proofs.lemmas.Result.{err_from_is_err_and}
 use Rattle.dap_host.proofs.GoingLemmas.{fresh_going}
-use Rattle.dap_host.proofs.LineLemmas.{bad_base}
 use Rattle.dap_host.proofs.host.Host.open.Goals as goal
-
-pub returns-in-Err-clause-refused : goal.returns-in-Err-clause-refused
-returns-in-Err-clause-refused c = bad_base c.args.bytes.now c.in_ok-told.told c.in-Err.fault c.in_ok-told.ensures.sources c.in-Err.ensures.fails
 
 pub returns-in_err-adapter-clause-refused : goal.returns-in_err-adapter-clause-refused
 returns-in_err-adapter-clause-refused c = let p = err_from_is_err_and c.from_residual-in_err-adapter.result c.from_residual-in_err-adapter.ensures.1 in rw (p.1, p.2) tt
 
 pub returns-clause-fresh : goal.returns-clause-fresh
 returns-clause-fresh c = record {
-  told = c.in_ok-told.told;
-  has = c.in_ok-told.ensures.sources;
-  base = c.in-Ok.opened.1;
-  reads = c.in-Ok.ensures.reads;
-  sources = c.in-Ok.ensures.sources;
+  reads = c.in-Ok.ensures;
   stands = c.in_ok-adapter.ensures.stands;
   session = c.in_ok-adapter.ensures.session;
   debuggee = c.in_ok-adapter.ensures.debuggee ∙ c.open-live.ensures;
@@ -26,4 +18,4 @@ returns-clause-fresh c = record {
 }
 
 pub returns-clause-going : goal.returns-clause-going
-returns-clause-going c = fresh_going _ c.args.limits c.in-Ok.opened.1 c.in_ok-adapter.ensures.stands c.in_ok-adapter.ensures.session (c.in_ok-adapter.ensures.debuggee ∙ c.open-live.ensures) refl c.limits_are_in_range.ensures c.bodies_come_one_by_one.ensures
+returns-clause-going c = fresh_going _ c.args.limits c.in-Ok.sources c.in_ok-adapter.ensures.stands c.in_ok-adapter.ensures.session (c.in_ok-adapter.ensures.debuggee ∙ c.open-live.ensures) refl c.limits_are_in_range.ensures c.bodies_come_one_by_one.ensures

@@ -1,6 +1,6 @@
 use Rattle.std.proofs.Common.{◌≡◌, ◌++◌, drop, if◌then◌else◌}
 use Rattle.dap_debuggee.specs.Laws.{with_value}
-use Rattle.dap_replay.proofs.variables.with_value.Given as goal
+use Rattle.dap_recording.proofs.variables.with_value.Given as goal
 
 -- the copy so far, and what is left of the variables
 abbrev pub invariant-loop-variable : goal.invariant-loop-variable

@@ -1,8 +1,8 @@
 use Rattle.std.proofs.Common.{map, ap, ◌∙◌}
-use Rattle.dap_replay.specs.Played.{with_variables}
-use Rattle.dap_replay.specs.PrivateHeld.{of_holder}
-use Rattle.dap_replay.proofs.Changed.{inserted}
-use Rattle.dap_replay.proofs.variables.HolderMap.put.Goals as goal
+use Rattle.dap_recording.specs.Variables.{with_variables}
+use Rattle.dap_recording.specs.PrivateHolders.{of_holder}
+use Rattle.dap_recording.proofs.Holders.{inserted}
+use Rattle.dap_recording.proofs.variables.HolderMap.put.Goals as goal
 
 pub returns-clause-put : goal.returns-clause-put
 returns-clause-put c =

@@ -1,6 +1,6 @@
 use Rattle.std.proofs.Common.{◌≡◌, drop}
 use Rattle.dap_debuggee.specs.Laws.{variable_named}
-use Rattle.dap_replay.proofs.variables.named.Given as goal
+use Rattle.dap_recording.proofs.variables.named.Given as goal
 
 -- the variable stands in what is left
 abbrev pub invariant-loop-variable : goal.invariant-loop-variable

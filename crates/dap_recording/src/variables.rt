@@ -83,8 +83,8 @@ pub struct HolderMap {
 
 impl Model for HolderMap {
     ghost use Rattle.std.specs.Prelude.{List};
-    ghost use Rattle.dap_replay.specs.Played.{OfHolder};
-    ghost use Rattle.dap_replay.specs.PrivateHeld.{entries_of};
+    ghost use Rattle.dap_recording.specs.Variables.{OfHolder};
+    ghost use Rattle.dap_recording.specs.PrivateHolders.{entries_of};
 
     ghost Value = { List OfHolder };
 
@@ -93,7 +93,7 @@ impl Model for HolderMap {
 
 impl HolderMap {
     ghost use Rattle.std.specs.Prelude.{◌≡◌, [], length, option_map, OnOk, OnErr};
-    ghost use Rattle.dap_replay.specs.Played.{variables_at, with_variables};
+    ghost use Rattle.dap_recording.specs.Variables.{variables_at, with_variables};
 
     /// No holder has variables here.
     pub fn new(alloc: Global) -> HolderMap

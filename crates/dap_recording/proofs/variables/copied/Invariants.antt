@@ -1,5 +1,5 @@
 use Rattle.std.proofs.Common.{◌≡◌, take}
-use Rattle.dap_replay.proofs.variables.copied.Given as goal
+use Rattle.dap_recording.proofs.variables.copied.Given as goal
 
 -- the copy so far is what stands there so far
 abbrev pub invariant-loop-original : goal.invariant-loop-original

@@ -1,8 +1,8 @@
 use Rattle.std.proofs.Common.{Global, Vec, Some, option_map, ap, ◌∙◌}
-use Rattle.dap_replay.specs.Played.{variables_at}
+use Rattle.dap_recording.specs.Variables.{variables_at}
 use Rattle.dap_debuggee.specs.declared.answers.Variable.{Variable}
-use Rattle.dap_replay.proofs.Changed.{looked_up}
-use Rattle.dap_replay.proofs.variables.HolderMap.get.Goals as goal
+use Rattle.dap_recording.proofs.Holders.{looked_up}
+use Rattle.dap_recording.proofs.variables.HolderMap.get.Goals as goal
 
 pub returns-in-None : goal.returns-in-None
 returns-in-None c =

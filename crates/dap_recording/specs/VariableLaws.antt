@@ -7,7 +7,7 @@ use Rattle.std.proofs.lemmas.Bool.{eqb-true}
 use Rattle.dap_debuggee.specs.Laws.{variable_named, with_value}
 use Rattle.dap_debuggee.specs.declared.answers.Variable.{Variable}
 use Rattle.dap_debuggee.specs.declared.answers.Assigned.{Assigned}
-use Rattle.dap_replay.specs.Played.{OfHolder, variables_at, with_variables, assigned_of}
+use Rattle.dap_recording.specs.Variables.{OfHolder, variables_at, with_variables, assigned_of}
 
 -- ---- variables that are put in
 
