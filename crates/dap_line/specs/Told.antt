@@ -82,7 +82,7 @@ variable_of d = do
   name ← required_at as_str Name d
   value ← required_at as_str Value d
   holder ← optional_at number_of Holder d
-  Ok (record { name = name; value = value; holder = holder })
+  Ok (record { name = name; value = value; holder = holder; more = [] })
 
 -- each one behind those before it
 abbrev pub each_variable : Items → List Variable → Read (List Variable)

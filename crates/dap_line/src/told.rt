@@ -13,7 +13,7 @@ use crate::refusal::{HostKey, Refusal};
 use dap_debuggee::{Category, Happening, Variable};
 use dap_json::object_reader::Scratch;
 use dap_json::property::Property;
-use dap_json::{List, ParseFault, Text, Tree, field};
+use dap_json::{List, More, ParseFault, Text, Tree, field};
 use dap_recording::numbers;
 use serde_json::Value;
 use std::alloc::{AllocError, AllocFailed, Global};
@@ -166,6 +166,7 @@ fn variable_in(alloc: Global, value: &Value) -> Result<Variable, Unread>
         name,
         value: text,
         holder,
+        more: More::none(),
     })
 }
 

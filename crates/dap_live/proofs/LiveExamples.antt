@@ -57,7 +57,7 @@ none = Some (record { text = codes "y"; value = None; holder = Some 7 })
 texts : (value_told sum (codes "x + 1") ≡ Some (codes "2")) × (value_told sum (codes "x") ≡ None) × (value_told None (codes "x") ≡ None) × (value_told none (codes "y") ≡ None) × (told_of none (codes "x") ≡ None)
 texts = (refl, refl, refl, refl, refl)
 
-values : (evaluated (told_of sum (codes "x + 1")) None ≡ Some (record { value = codes "2"; holder = None })) × (evaluated (told_of sum (codes "x")) (Some (record { value = codes "1"; holder = Some 3 })) ≡ Some (record { value = codes "1"; holder = Some 3 })) × (evaluated (told_of none (codes "y")) (Some (record { value = codes "1"; holder = None })) ≡ None) × (evaluated (told_of pair (codes "p")) None ≡ Some (record { value = codes "{..}"; holder = Some 7 }))
+values : (evaluated (told_of sum (codes "x + 1")) None ≡ Some (record { value = codes "2"; holder = None; more = [] })) × (evaluated (told_of sum (codes "x")) (Some (record { value = codes "1"; holder = Some 3; more = [] })) ≡ Some (record { value = codes "1"; holder = Some 3; more = [] })) × (evaluated (told_of none (codes "y")) (Some (record { value = codes "1"; holder = None; more = [] })) ≡ None) × (evaluated (told_of pair (codes "p")) None ≡ Some (record { value = codes "{..}"; holder = Some 7 }))
 values = (refl, refl, refl, refl)
 
 nothing_shown : (threads_in (now_shown NotStarted None) ≡ []) × (threads_in (now_shown Running None) ≡ []) × (children_in (now_shown Stopped None) 0 ≡ None) × (assigned_by (Some (codes "2")) (codes "x") None ≡ None)
@@ -66,7 +66,7 @@ nothing_shown = (refl, refl, refl, refl)
 -- ---- a moment of one frame with two scopes: the first came without its variables, the second has x
 
 abbrev one : List ℕ → List Variable
-one value = record { name = codes "x"; value = value; holder = None } ∷ []
+one value = record { name = codes "x"; value = value; holder = None; more = [] } ∷ []
 
 abbrev source : RecordedSource
 source = record { name = codes "a"; path = None; text = codes "x"; on_disk = false; lines = 1 }
@@ -75,7 +75,7 @@ source = record { name = codes "a"; path = None; text = codes "x"; on_disk = fal
 abbrev moment_with : List ℕ → MomentAlone
 moment_with untold = record {
   moment = record {
-    threads = record { id = pos 1; name = codes "main"; frames = record { object = 0; name = codes "f"; source = Some 0; line = 1 } ∷ [] } ∷ [];
+    threads = record { id = pos 1; name = codes "main"; frames = record { object = 0; name = codes "f"; source = Some 0; line = 1; more = [] } ∷ [] } ∷ [];
     thread = 0;
     output = [];
     waits = false;
@@ -83,7 +83,7 @@ moment_with untold = record {
     frames = record { from = 0; to = 1 };
     holders = record { from = 0; to = 2 };
   };
-  scopes = (record { name = codes "Locals"; holder = 0 } ∷ record { name = codes "Globals"; holder = 1 } ∷ []) ∷ [];
+  scopes = (record { name = codes "Locals"; holder = 0; more = [] } ∷ record { name = codes "Globals"; holder = 1; more = [] } ∷ []) ∷ [];
   variables = [] ∷ one (codes "1") ∷ [];
   untold = untold;
   sources = 1;
@@ -114,14 +114,14 @@ told_later : (children_in told_more 0 ≡ Some (one (codes "2"))) × (children_i
 told_later = (refl, refl, refl, refl, refl)
 
 -- a scope that is still to be told hides those behind it
-names : (evaluation_in (shows false) (Some 0) (codes "x") ≡ Some (record { value = codes "1"; holder = None })) × (evaluation_in (shows true) (Some 0) (codes "x") ≡ None) × (evaluation_in told_more (Some 0) (codes "x") ≡ Some (record { value = codes "2"; holder = None })) × (evaluation_in told_more None (codes "x") ≡ None) × (evaluation_in told_more (Some 1) (codes "x") ≡ None)
+names : (evaluation_in (shows false) (Some 0) (codes "x") ≡ Some (record { value = codes "1"; holder = None; more = [] })) × (evaluation_in (shows true) (Some 0) (codes "x") ≡ None) × (evaluation_in told_more (Some 0) (codes "x") ≡ Some (record { value = codes "2"; holder = None; more = [] })) × (evaluation_in told_more None (codes "x") ≡ None) × (evaluation_in told_more (Some 1) (codes "x") ≡ None)
 names = (refl, refl, refl, refl, refl)
 
 drops_of_holders : (why_untold None 0 ≡ Some OutOfTurn) × (why_untold (shows true) 0 ≡ None) × (why_untold (shows false) 0 ≡ Some Told) × (why_untold (shows true) 1 ≡ Some Told) × (why_untold told_more 7 ≡ Some Told) × (why_untold told_more 8 ≡ None) × (why_not_more None 65535 ≡ None) × (why_not_more None 65536 ≡ Some TooManyHolders) × (why_not_more (Some []) 65536 ≡ Some Told)
 drops_of_holders = (refl, refl, refl, refl, refl, refl, refl, refl, refl)
 
 -- a value that is set comes before that of the moment, and before what was told
-values_set : (children_in (with_told 1 (with_value (codes "x") (codes "9") (one (codes "1"))) (shows true)) 1 ≡ Some (one (codes "9"))) × (children_in (with_told 0 (with_value (codes "x") (codes "9") (one (codes "2"))) told_more) 0 ≡ Some (one (codes "9"))) × (assigned_by (Some (codes "9")) (codes "x") (children_in told_more 0) ≡ Some (record { value = codes "9" })) × (assigned_by (Some (codes "9")) (codes "y") (children_in told_more 0) ≡ None) × (assigned_by None (codes "x") (children_in told_more 0) ≡ None)
+values_set : (children_in (with_told 1 (with_value (codes "x") (codes "9") (one (codes "1"))) (shows true)) 1 ≡ Some (one (codes "9"))) × (children_in (with_told 0 (with_value (codes "x") (codes "9") (one (codes "2"))) told_more) 0 ≡ Some (one (codes "9"))) × (assigned_by (Some (codes "9")) (codes "x") (children_in told_more 0) ≡ Some (record { value = codes "9"; more = [] })) × (assigned_by (Some (codes "9")) (codes "y") (children_in told_more 0) ≡ None) × (assigned_by None (codes "x") (children_in told_more 0) ≡ None)
 values_set = (refl, refl, refl, refl, refl)
 
 -- ---- what an act answers and leaves
@@ -183,7 +183,7 @@ shown_next : (here_after to_poll (at_stop true None) ≡ shows true) × (here_af
 shown_next = (refl, refl, refl, refl, refl)
 
 -- or is another moment
-another_stop : threads_in (here_after to_poll (at Running (Some halt))) ≡ record { id = pos 1; name = codes "main" } ∷ []
+another_stop : threads_in (here_after to_poll (at Running (Some halt))) ≡ record { id = pos 1; name = codes "main"; more = [] } ∷ []
 another_stop = refl
 
 nine_set : here_after (to_assign 1 (codes "x") (codes "9")) (at_stop true None) ≡ with_told 1 (one (codes "9")) (shows true)

@@ -529,7 +529,7 @@ assigns_variables-live v holder name text h = variable_there (value_told v.learn
 -- ---- a value that is set
 
 -- the variable is told of, with its value
-value_there : (o : Option Variable) (value : List ℕ) → IsSome o → (let f : Variable → Assigned = (λ variable. record { value = value }) in option_map f o ≡ Some (record { value = value }))
+value_there : (o : Option Variable) (value : List ℕ) → IsSome o → (let f : Variable → Assigned = (λ variable. record { value = value; more = [] }) in option_map f o ≡ Some (record { value = value; more = [] }))
 value_there None value there = absurd (cc there)
 value_there (Some x) value there = refl
 
@@ -584,6 +584,7 @@ sets_values-live v w holder name text r f =
     λ h. ap (λ o. children_in o h) shown ∙ children_set before holder h name value variables has in
     record {
       value = value;
+      more = [];
       told = ap (λ t. assigned_by t name there) known_value ∙ ap (assigned_of name value) has ∙ value_there (variable_named name variables) value (is_named told name there f.asked);
       set = record {
         threads = ap threads_in shown ∙ threads_told before holder changed;

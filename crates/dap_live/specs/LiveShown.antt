@@ -106,7 +106,7 @@ value_told learned text = option_and_then (λ l. l.value) (told_of learned text)
 -- what the host told comes before what is shown, also that there is no value
 abbrev pub evaluated : Option Learned → Option Evaluation → Option Evaluation
 evaluated None shown = shown
-evaluated (Some l) shown = option_map (λ value. record { value = value; holder = l.holder }) l.value
+evaluated (Some l) shown = option_map (λ value. record { value = value; holder = l.holder; more = [] }) l.value
 
 -- a variable that is shown, where the host told what the text comes to
 abbrev pub assigned_by : Option (List ℕ) → List ℕ → Option (List Variable) → Option Assigned

@@ -52,11 +52,15 @@ pub struct Live {
 }
 
 impl Model for Live {
+    ghost use Rattle.std.specs.Coded.{codes};
+    ghost use Rattle.dap_json.specs.Stored.{coded_data};
     ghost use Rattle.std.specs.Prelude.{option_map};
     ghost use Rattle.dap_live.specs.LiveShown.{LiveState, IsFew};
     ghost use Rattle.dap_live.specs.PrivateHeld.{last_of};
 
     ghost Value = { LiveState };
+
+    ghost coded = { Prim.hlevel (codes, coded_data) };
 
     ghost view = { λ l. record {
       sources = l.sources;

@@ -80,6 +80,7 @@ impl Here {
             Some(variable) => Ok(Evaluation {
                 value: variable.value.clone()?,
                 holder: variable.holder,
+                more: variable.more.clone()?,
             }),
         }
     }

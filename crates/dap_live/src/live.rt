@@ -15,7 +15,7 @@ use dap_debuggee::{
     Asked, Assigned, Debuggee, DebuggeeFault, Evaluation, Frame, Happening, HasMail, How, Scope,
     Source, State, Thread, Variable,
 };
-use dap_json::{List, Text};
+use dap_json::{List, More, Text};
 use dap_recording::variables::{self, HolderMap};
 use dap_recording::{Snapshot, Sources};
 use std::alloc::{AllocError, Global};
@@ -556,6 +556,7 @@ impl Debuggee for Live {
                 Some(value) => Ok(Evaluation {
                     value: value.clone()?,
                     holder: learned.holder,
+                    more: More::none(),
                 }),
             };
         }
@@ -582,6 +583,7 @@ impl Debuggee for Live {
             None => Err(DebuggeeFault::Refused),
             Some(_) => Ok(Assigned {
                 value: value.clone()?,
+                more: More::none(),
             }),
         }
     }

@@ -110,10 +110,14 @@ pub struct Mail {
 }
 
 impl Model for Mail {
+    ghost use Rattle.std.specs.Coded.{codes};
+    ghost use Rattle.dap_json.specs.Stored.{coded_data};
     ghost use Rattle.dap_live.specs.MailState.{MailState};
     ghost use Rattle.dap_live.specs.PrivateHeld.{acts_held};
 
     ghost Value = { MailState };
+
+    ghost coded = { Prim.hlevel (codes, coded_data) };
 
     ghost view = { λ m. record { coming = m.coming; acts = acts_held m.acts.items m.is_to_end; dropped = m.dropped } };
 }

@@ -120,7 +120,7 @@ mutual
       with_ok (required_at as_str key.Name (object ms)) _ r e (λ name named e1.
       with_ok (required_at as_str key.Value (object ms)) _ r e1 (λ value valued e2.
       with_ok (variables_within ms holders) _ r e2 (λ inner is e3.
-      subst (λ (x : Variable × Holders). NumbersOne n x.0.holder holders x.1) (ok_same (record { name = name; value = value; holder = holder_of inner.0 inner.1 }, with_holder inner.0 inner.1) r e3)
+      subst (λ (x : Variable × Holders). NumbersOne n x.0.holder holders x.1) (ok_same (record { name = name; value = value; holder = holder_of inner.0 inner.1; more = [] }, with_holder inner.0 inner.1) r e3)
       (numbered_if_some n inner.0 holders inner.1 (within_numbers n ms holders inner is)))))
   variable_numbers n d holders r e = absurd (cc e)
 
@@ -155,7 +155,7 @@ unfolding scope_of
 scope_numbers n d holders r e =
     with_ok (required_at as_str key.Name d) _ r (then_ok (element key.Scopes d) _ r e) (λ name named e1.
     with_ok (read_variables (value_at key.Variables d) holders) _ r e1 (λ inner is e2.
-    subst (λ (x : Scope × Holders). NumbersOne n (Some x.0.holder) holders x.1) (ok_same (record { name = name; holder = length inner.1 }, inner.1 ++ inner.0 ∷ []) r e2)
+    subst (λ (x : Scope × Holders). NumbersOne n (Some x.0.holder) holders x.1) (ok_same (record { name = name; holder = length inner.1; more = [] }, inner.1 ++ inner.0 ∷ []) r e2)
     (numbered n inner.0 holders inner.1 (listed_numbers n (value_at key.Variables d) holders inner is))))
 
 scope_added : (n : ℕ) (before : Holders) (found : List Scope) (holders : Holders) (d : Data) (next : Scope × Holders) → scope_of d holders ≡ Ok next → NumbersScopes n before (found, holders) → NumbersScopes n before (found ++ next.0 ∷ [], next.1)
@@ -180,7 +180,7 @@ frame_numbers n by sources d s r e p =
     with_ok (frame_line sources source d) _ r e2 (λ line lined e3.
     with_ok (optional_or as_array no_items key.Scopes d) _ r e3 (λ given listed e4.
     with_ok (scopes_of given s.variables) _ r e4 (λ scopes scoped e5.
-    let frame : Frame = record { object = length s.scopes; name = name; source = source; line = line } in
+    let frame : Frame = record { object = length s.scopes; name = name; source = source; line = line; more = [] } in
     let after : Numbered = record { scopes = s.scopes ++ scopes.0 ∷ []; variables = scopes.1; untold = s.untold ++ untold_of given scopes.0 } in
     subst (λ (x : Frame × Numbered). NumbersAll n x.1) (ok_same (frame, after) r e5) (omega (arith, p, scopes_numbers n given s.variables scopes scoped, frames_more n s.scopes scopes.0)))))))
 

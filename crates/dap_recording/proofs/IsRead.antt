@@ -179,7 +179,7 @@ frame_holds by sources before found s d next e p =
     with_ok (frame_line sources source d) _ next e2 (λ line lined e3.
     with_ok (optional_or as_array no_items key.Scopes d) _ next e3 (λ given listed e4.
     with_ok (scopes_of given s.variables) _ next e4 (λ scopes scoped e5.
-    let frame : Frame = record { object = length s.scopes; name = name; source = source; line = line } in
+    let frame : Frame = record { object = length s.scopes; name = name; source = source; line = line; more = [] } in
     let after : Numbered = record { scopes = s.scopes ++ scopes.0 ∷ []; variables = scopes.1; untold = s.untold ++ untold_of given scopes.0 } in
     let more = length-append s.scopes (scopes.0 ∷ []) in
     subst (λ n. FramesHold (length sources) before (found ++ n.0 ∷ [], n.1)) (ok_same (frame, after) next e5)

@@ -129,10 +129,10 @@ source_is_an_object = refl
 -- ---- variables
 
 no_children_no_number : variables_of (one (object (put (codes "name") (text (codes "v")) (put (codes "value") (text (codes "1")) (put (codes "variables") none no_members))))) []
-    ≡ Ok (record { name = codes "v"; value = codes "1"; holder = None } ∷ [], [])
+    ≡ Ok (record { name = codes "v"; value = codes "1"; holder = None; more = [] } ∷ [], [])
 no_children_no_number = refl
 
-children_before_their_parent : variables_of (one variable_p) ([] ∷ []) ≡ Ok (record { name = codes "p"; value = codes "P"; holder = Some 1 } ∷ [], [] ∷ (record { name = codes "a"; value = codes "7"; holder = None } ∷ []) ∷ [])
+children_before_their_parent : variables_of (one variable_p) ([] ∷ []) ≡ Ok (record { name = codes "p"; value = codes "P"; holder = Some 1; more = [] } ∷ [], [] ∷ (record { name = codes "a"; value = codes "7"; holder = None; more = [] } ∷ []) ∷ [])
 children_before_their_parent = refl
 
 null_is_no_list : variables_of (one (object (put (codes "name") (text (codes "v")) (put (codes "value") (text (codes "1")) (put (codes "variables") null no_members))))) [] ≡ Err key.Variables
@@ -236,7 +236,7 @@ abbrev told_by : Teller → Members → Read (Frame × Numbered)
 told_by by ms = frame_of by sources_a (object (put (codes "name") (text (codes "f")) ms)) none_numbered
 
 abbrev first : Option ℕ → ℕ → List ℕ → Frame × Numbered
-first source line untold = (record { object = 0; name = codes "f"; source = source; line = line }, record { scopes = [] ∷ []; variables = []; untold = untold })
+first source line untold = (record { object = 0; name = codes "f"; source = source; line = line; more = [] }, record { scopes = [] ∷ []; variables = []; untold = untold })
 
 -- the line is not looked at without a source
 frame_without_a_source : (told_by teller.Host no_members ≡ Ok (first None 0 [])) × (told_by teller.Host (put (codes "line") (whole 7) no_members) ≡ Ok (first None 0 [])) × (told_by teller.Host (put (codes "line") null no_members) ≡ Ok (first None 0 []))
@@ -265,17 +265,17 @@ scopes_told scopes = told_by teller.Host (put (codes "scopes") (array scopes) no
 
 -- no key is untold, no elements are told
 untold_scope : scopes_told (item (scope_without (codes "A")) (item (scope_with (codes "B") none) no_items))
-    ≡ Ok (record { object = 0; name = codes "f"; source = None; line = 0 }, record { scopes = (record { name = codes "A"; holder = 0 } ∷ record { name = codes "B"; holder = 1 } ∷ []) ∷ []; variables = [] ∷ [] ∷ []; untold = 0 ∷ [] })
+    ≡ Ok (record { object = 0; name = codes "f"; source = None; line = 0; more = [] }, record { scopes = (record { name = codes "A"; holder = 0; more = [] } ∷ record { name = codes "B"; holder = 1; more = [] } ∷ []) ∷ []; variables = [] ∷ [] ∷ []; untold = 0 ∷ [] })
 unfolding recording_of source_of moments_of moment_of thread_of frame_of scopes_of scope_of stop_of
 untold_scope = refl
 
 -- by its number, which comes after those of the variables before it
 untold_after_others : scopes_told (item (scope_with (codes "A") (one variable_p)) (item (scope_without (codes "B")) no_items))
     ≡ Ok (
-      record { object = 0; name = codes "f"; source = None; line = 0 },
+      record { object = 0; name = codes "f"; source = None; line = 0; more = [] },
       record {
-        scopes = (record { name = codes "A"; holder = 1 } ∷ record { name = codes "B"; holder = 2 } ∷ []) ∷ [];
-        variables = (record { name = codes "a"; value = codes "7"; holder = None } ∷ []) ∷ (record { name = codes "p"; value = codes "P"; holder = Some 0 } ∷ []) ∷ [] ∷ [];
+        scopes = (record { name = codes "A"; holder = 1; more = [] } ∷ record { name = codes "B"; holder = 2; more = [] } ∷ []) ∷ [];
+        variables = (record { name = codes "a"; value = codes "7"; holder = None; more = [] } ∷ []) ∷ (record { name = codes "p"; value = codes "P"; holder = Some 0; more = [] } ∷ []) ∷ [] ∷ [];
         untold = 2 ∷ [];
       },
     )

@@ -10,7 +10,7 @@ use Rattle.dap_recording.specs.declared.recording.RecordedThread.{RecordedThread
 use Rattle.dap_recording.proofs.ThreeMoments.{three_moments}
 
 abbrev frame : ℕ → ℕ → ℕ → Frame
-frame object source line = record { object = object; name = codes "f"; source = Some source; line = line }
+frame object source line = record { object = object; name = codes "f"; source = Some source; line = line; more = [] }
 
 -- ---- recordings
 
@@ -41,7 +41,7 @@ moments = (refl, refl, refl, refl, refl, refl)
 
 -- a frame without a source is one of any sources
 abbrev bare : Frame
-bare = record { object = 3; name = codes "f"; source = None; line = 0 }
+bare = record { object = 3; name = codes "f"; source = None; line = 0; more = [] }
 
 frames_without_a_source : (is_moment 0 (moment 0 (thread 7 (bare ∷ []) ∷ [])) ≡ true) × (is_moment 1 (moment 0 (thread 7 (frame 2 0 1 ∷ bare ∷ []) ∷ [])) ≡ true) × (is_moment 1 (moment 0 (thread 7 (record bare { line = 1 } ∷ []) ∷ [])) ≡ false)
 frames_without_a_source = (refl, refl, refl)
@@ -68,10 +68,10 @@ abbrev spanned : ℕ → ℕ → Moment
 spanned frames holders = record { threads = thread 7 (frame 0 0 1 ∷ []) ∷ []; thread = 0; output = []; waits = false; stop = None; frames = record { from = 0; to = frames }; holders = record { from = 0; to = holders } }
 
 abbrev scope : ℕ → Scope
-scope holder = record { name = codes "s"; holder = holder }
+scope holder = record { name = codes "s"; holder = holder; more = [] }
 
 abbrev variable : ℕ → Variable
-variable holder = record { name = codes "v"; value = codes "1"; holder = Some holder }
+variable holder = record { name = codes "v"; value = codes "1"; holder = Some holder; more = [] }
 
 -- of a frame outside its span
 frame_elsewhere : HasOwnNumbers ([] ∷ []) [] (spanned 0 0) → ⊥

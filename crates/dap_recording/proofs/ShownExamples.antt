@@ -26,7 +26,7 @@ lines = (refl, refl, refl, refl, refl)
 abbrev alone : MomentAlone
 alone = record {
   moment = record {
-    threads = record { id = pos 1; name = codes "main"; frames = record { object = 0; name = codes "f"; source = Some 0; line = 1 } ∷ [] } ∷ [];
+    threads = record { id = pos 1; name = codes "main"; frames = record { object = 0; name = codes "f"; source = Some 0; line = 1; more = [] } ∷ [] } ∷ [];
     thread = 0;
     output = [];
     waits = false;
@@ -34,14 +34,14 @@ alone = record {
     frames = record { from = 0; to = 1 };
     holders = record { from = 0; to = 2 };
   };
-  scopes = (record { name = codes "Locals"; holder = 0 } ∷ record { name = codes "Globals"; holder = 1 } ∷ []) ∷ [];
-  variables = [] ∷ (record { name = codes "x"; value = codes "1"; holder = None } ∷ []) ∷ [];
+  scopes = (record { name = codes "Locals"; holder = 0; more = [] } ∷ record { name = codes "Globals"; holder = 1; more = [] } ∷ []) ∷ [];
+  variables = [] ∷ (record { name = codes "x"; value = codes "1"; holder = None; more = [] } ∷ []) ∷ [];
   untold = 0 ∷ [];
   sources = 1;
 }
 
-frames : (frames_in alone.moment.threads (pos 1) ≡ Some (record { object = 0; name = codes "f"; source = Some 0; line = 1 } ∷ [])) × (frames_in alone.moment.threads (pos 2) ≡ None) × (is_moment 1 alone.moment ≡ true) × (is_moment 0 alone.moment ≡ false)
+frames : (frames_in alone.moment.threads (pos 1) ≡ Some (record { object = 0; name = codes "f"; source = Some 0; line = 1; more = [] } ∷ [])) × (frames_in alone.moment.threads (pos 2) ≡ None) × (is_moment 1 alone.moment ≡ true) × (is_moment 0 alone.moment ≡ false)
 frames = (refl, refl, refl, refl)
 
-holders : (scopes_alone alone 1 ≡ None) × (children_alone alone 0 ≡ Some []) × (children_alone alone 1 ≡ Some (record { name = codes "x"; value = codes "1"; holder = None } ∷ [])) × (children_alone alone 2 ≡ None) × (is_among 0 alone.untold ≡ true) × (is_among 1 alone.untold ≡ false) × (is_in alone.moment.holders 2 ≡ false)
+holders : (scopes_alone alone 1 ≡ None) × (children_alone alone 0 ≡ Some []) × (children_alone alone 1 ≡ Some (record { name = codes "x"; value = codes "1"; holder = None; more = [] } ∷ [])) × (children_alone alone 2 ≡ None) × (is_among 0 alone.untold ≡ true) × (is_among 1 alone.untold ≡ false) × (is_in alone.moment.holders 2 ≡ false)
 holders = (refl, refl, refl, refl, refl, refl, refl)

@@ -173,7 +173,7 @@ mutual
       with_ok (required_at as_str key.Name (object ms)) _ r e (λ name named e1.
       with_ok (required_at as_str key.Value (object ms)) _ r e1 (λ value valued e2.
       with_ok (variables_within ms holders) _ r e2 (λ inner is e3.
-      subst (λ (x : Variable × Holders). FoundOne base holders x.0.holder x.1) (ok_same (record { name = name; value = value; holder = holder_of inner.0 inner.1 }, with_holder inner.0 inner.1) r e3)
+      subst (λ (x : Variable × Holders). FoundOne base holders x.0.holder x.1) (ok_same (record { name = name; value = value; holder = holder_of inner.0 inner.1; more = [] }, with_holder inner.0 inner.1) r e3)
       (found_holder base holders inner.0 inner.1 (within_found base ms holders inner is a)))))
   variable_found base d holders r e a = absurd (cc e)
 
@@ -221,7 +221,7 @@ scope_read base before found holders d next e p =
     let one = listed_found base (value_at key.Variables d) holders inner is p.read.added in
     let count = length-append inner.1 (inner.0 ∷ []) in
     let more : length holders ≤ length (inner.1 ++ inner.0 ∷ []) = omega (arith, count, one.longer) in
-    let scope : Scope = record { name = name; holder = length inner.1 } in
+    let scope : Scope = record { name = name; holder = length inner.1; more = [] } in
     subst (λ (x : Scope × Holders). ScopesRead base before (found ++ x.0 ∷ [], x.1)) (ok_same (scope, inner.1 ++ inner.0 ∷ []) next e2)
     (record {
       read = record {
@@ -284,7 +284,7 @@ frame_read base before by sources found s d next e p =
     with_ok (frame_line sources source d) _ next e2 (λ line lined e3.
     with_ok (optional_or as_array no_items key.Scopes d) _ next e3 (λ given listed e4.
     with_ok (scopes_of given s.variables) _ next e4 (λ scopes scoped e5.
-    let frame : Frame = record { object = length s.scopes; name = name; source = source; line = line } in
+    let frame : Frame = record { object = length s.scopes; name = name; source = source; line = line; more = [] } in
     let after : Numbered = record { scopes = s.scopes ++ scopes.0 ∷ []; variables = scopes.1; untold = s.untold ++ untold_of given scopes.0 } in
     subst (λ (x : Frame × Numbered). FramesRead base before (found ++ x.0 ∷ [], x.1)) (ok_same (frame, after) next e5)
     (frame_added base before found s frame scopes after.untold refl (scopes_read base.variables given s.variables scopes scoped p.since.added) p))))))

@@ -162,7 +162,7 @@ abbrev mutual
     name ← required_at as_str key.Name (object ms)
     value ← required_at as_str key.Value (object ms)
     inner ← variables_within ms holders
-    Ok (record { name = name; value = value; holder = holder_of inner.0 inner.1 }, with_holder inner.0 inner.1)
+    Ok (record { name = name; value = value; holder = holder_of inner.0 inner.1; more = [] }, with_holder inner.0 inner.1)
   variable_of d holders = Err key.Variables
 
   pub variables_of : Data → Holders → Read (List Variable × Holders)
@@ -191,7 +191,7 @@ variable_row d holders = do
   name ← required_at as_str key.Name d
   value ← required_at as_str key.Value d
   inner ← read_variables (value_at key.Variables d) holders
-  Ok (record { name = name; value = value; holder = holder_of inner.0 inner.1 }, with_holder inner.0 inner.1)
+  Ok (record { name = name; value = value; holder = holder_of inner.0 inner.1; more = [] }, with_holder inner.0 inner.1)
 
 -- ---- scopes, frames and threads
 
@@ -218,7 +218,7 @@ scope_of d holders = do
   element key.Scopes d
   name ← required_at as_str key.Name d
   inner ← read_variables (value_at key.Variables d) holders
-  Ok (record { name = name; holder = length inner.1 }, inner.1 ++ inner.0 ∷ [])
+  Ok (record { name = name; holder = length inner.1; more = [] }, inner.1 ++ inner.0 ∷ [])
 
 unfoldable pub scopes_of : Items → Holders → Read (List Scope × Holders)
 scopes_of given holders = each (λ earlier. scope_of) given [] holders
@@ -253,7 +253,7 @@ frame_of by sources d numbered = do
   line ← frame_line sources source d
   given ← optional_or as_array no_items key.Scopes d
   scopes ← scopes_of given numbered.variables
-  Ok (record { object = length numbered.scopes; name = name; source = source; line = line }, record { scopes = numbered.scopes ++ scopes.0 ∷ []; variables = scopes.1; untold = numbered.untold ++ untold_of given scopes.0 })
+  Ok (record { object = length numbered.scopes; name = name; source = source; line = line; more = [] }, record { scopes = numbered.scopes ++ scopes.0 ∷ []; variables = scopes.1; untold = numbered.untold ++ untold_of given scopes.0 })
 
 unfoldable pub thread_of : Teller → List RecordedSource → List RecordedThread → Data → Numbered → Read (RecordedThread × Numbered)
 thread_of by sources earlier d numbered = do

@@ -1,5 +1,5 @@
 -- One moment by itself: what it shows by the numbers that it tells. This profile's choice.
-use Rattle.std.specs.Prelude.{◌≡◌, ℕ, ℤ, ◌≤◌, Bool, ◌&&◌, nat_eq, nat_le, nat_lt, List, length, Option, Some, None, option_map, IsTrue, if◌then◌else◌}
+use Rattle.std.specs.Prelude.{◌≡◌, ℕ, ℤ, ◌≤◌, Bool, ◌&&◌, nat_eq, nat_le, nat_lt, List, [], length, Option, Some, None, option_map, IsTrue, if◌then◌else◌}
 use Rattle.std.specs.List.{list_all, list_any, slice_get, find, count_by}
 use Rattle.std.specs.Ordering.{int_eq}
 use Rattle.dap_command.specs.Numbers.{is_int}
@@ -42,7 +42,7 @@ alone_in r m = record { moment = m; scopes = r.scopes; variables = r.variables; 
 -- ---- what is shown
 
 abbrev pub thread_shown : RecordedThread → Thread
-thread_shown thread = record { id = thread.id; name = thread.name }
+thread_shown thread = record { id = thread.id; name = thread.name; more = [] }
 
 abbrev pub thread_with : ℤ → List RecordedThread → Option RecordedThread
 thread_with id threads = find (λ thread. int_eq id thread.id) threads

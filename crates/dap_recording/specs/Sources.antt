@@ -1,5 +1,5 @@
 -- What sources show: the name and the path of each, its text, and which lines it has. This profile's choice.
-use Rattle.std.specs.Prelude.{ℕ, zero, suc, Bool, false, ◌&&◌, nat_le, bytes_eq, List, map, Option, option_map, unwrap_or}
+use Rattle.std.specs.Prelude.{ℕ, zero, suc, Bool, false, ◌&&◌, nat_le, bytes_eq, List, [], map, Option, option_map, unwrap_or}
 use Rattle.std.specs.List.{list_any, slice_get}
 use Rattle.dap_command.specs.declared.source_key.SourceKey.{SourceKey}
 use Rattle.dap_command.specs.declared.source_key.SourceKey.TheVariants.{Path, Reference}
@@ -7,7 +7,7 @@ use Rattle.dap_debuggee.specs.declared.answers.Source.{Source}
 use Rattle.dap_recording.specs.declared.recording.RecordedSource.{RecordedSource}
 
 abbrev pub source_shown : RecordedSource → Source
-source_shown source = record { name = source.name; path = source.path; on_disk = source.on_disk }
+source_shown source = record { name = source.name; path = source.path; on_disk = source.on_disk; more = [] }
 
 abbrev pub text_at : List RecordedSource → ℕ → Option (List ℕ)
 text_at sources index = option_map (λ source. source.text) (slice_get sources index)

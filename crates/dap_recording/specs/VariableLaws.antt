@@ -36,27 +36,27 @@ variables-of_others holder h xs (c ∷ changed) other = else-by (nat_lt holder c
 -- ---- a value that is set
 
 -- the value is the text, of a variable that is there
-value-is : (o : Option Variable) (text : List ℕ) (a : Assigned) → option_map (λ variable. record { value = text }) o ≡ Some a → a.value ≡ text
+value-is : (o : Option Variable) (text : List ℕ) (a : Assigned) → option_map (λ variable. record { value = text; more = [] }) o ≡ Some a → a.value ≡ text
 value-is None text a e = absurd (cc e)
-value-is (Some x) text a e = let same : (let out : Assigned = record { value = text } in out) ≡ a = cc in sym (ap (λ (y : Assigned). y.value) same)
+value-is (Some x) text a e = let same : (let out : Assigned = record { value = text; more = [] } in out) ≡ a = cc in sym (ap (λ (y : Assigned). y.value) same)
 
 pub named-in : (o : Option (List Variable)) (name text : List ℕ) (a : Assigned) → assigned_of name text o ≡ Some a → (xs : List Variable) × (o ≡ Some xs) × (a.value ≡ text)
 named-in None name text a e = absurd (cc e)
 named-in (Some xs) name text a e = (xs, refl, value-is (variable_named name xs) text a e)
 
 -- the names stay, and so what can be set
-head-by : (b c : Bool) (x y : Variable) (xs ys : List Variable) (n text : List ℕ) → (let f : Variable → Assigned = (λ variable. record { value = text }) in option_map f (find (λ variable. bytes_eq n variable.name) xs) ≡ option_map f (find (λ variable. bytes_eq n variable.name) ys))
-    → (let f : Variable → Assigned = (λ variable. record { value = text }) in option_map f (if c then Some x else find (λ variable. bytes_eq n variable.name) xs) ≡ option_map f (if c then Some y else find (λ variable. bytes_eq n variable.name) ys))
+head-by : (b c : Bool) (x y : Variable) (xs ys : List Variable) (n text : List ℕ) → (let f : Variable → Assigned = (λ variable. record { value = text; more = [] }) in option_map f (find (λ variable. bytes_eq n variable.name) xs) ≡ option_map f (find (λ variable. bytes_eq n variable.name) ys))
+    → (let f : Variable → Assigned = (λ variable. record { value = text; more = [] }) in option_map f (if c then Some x else find (λ variable. bytes_eq n variable.name) xs) ≡ option_map f (if c then Some y else find (λ variable. bytes_eq n variable.name) ys))
 head-by b true x y xs ys n text rest = refl
 head-by b false x y xs ys n text rest = rest
 
 names-by : (b : Bool) (x : Variable) (xs : List Variable) (name value n text : List ℕ)
-    → (let f : Variable → Assigned = (λ variable. record { value = text }) in option_map f (variable_named n (with_value name value xs)) ≡ option_map f (variable_named n xs))
-    → (let f : Variable → Assigned = (λ variable. record { value = text }) in option_map f (variable_named n (if b then record { name = x.name; value = value; holder = x.holder } ∷ xs else x ∷ with_value name value xs)) ≡ option_map f (variable_named n (x ∷ xs)))
-names-by true x xs name value n text rest = head-by true (bytes_eq n x.name) (record { name = x.name; value = value; holder = x.holder }) x xs xs n text refl
+    → (let f : Variable → Assigned = (λ variable. record { value = text; more = [] }) in option_map f (variable_named n (with_value name value xs)) ≡ option_map f (variable_named n xs))
+    → (let f : Variable → Assigned = (λ variable. record { value = text; more = [] }) in option_map f (variable_named n (if b then record { name = x.name; value = value; holder = x.holder; more = x.more } ∷ xs else x ∷ with_value name value xs)) ≡ option_map f (variable_named n (x ∷ xs)))
+names-by true x xs name value n text rest = head-by true (bytes_eq n x.name) (record { name = x.name; value = value; holder = x.holder; more = x.more }) x xs xs n text refl
 names-by false x xs name value n text rest = head-by false (bytes_eq n x.name) x x (with_value name value xs) xs n text rest
 
-names-stay : (xs : List Variable) (name value n text : List ℕ) → (let f : Variable → Assigned = (λ variable. record { value = text }) in option_map f (variable_named n (with_value name value xs)) ≡ option_map f (variable_named n xs))
+names-stay : (xs : List Variable) (name value n text : List ℕ) → (let f : Variable → Assigned = (λ variable. record { value = text; more = [] }) in option_map f (variable_named n (with_value name value xs)) ≡ option_map f (variable_named n xs))
 names-stay [] name value n text = refl
 names-stay (x ∷ xs) name value n text = names-by (bytes_eq name x.name) x xs name value n text (names-stay xs name value n text)
 
@@ -74,4 +74,4 @@ some-before f (Some x) h = refl
 
 -- only a variable that is there can be set
 pub assigned-there : (o : Option (List Variable)) (name text : List ℕ) → IsSome (assigned_of name text o) → IsSome (option_and_then (variable_named name) o)
-assigned-there o name text h = some-before (λ variable. record { value = text }) (option_and_then (variable_named name) o) h
+assigned-there o name text h = some-before (λ variable. record { value = text; more = [] }) (option_and_then (variable_named name) o) h

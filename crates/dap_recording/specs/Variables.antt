@@ -32,8 +32,8 @@ first_of None other = other
 first_of (Some x) other = Some x
 
 abbrev pub evaluation : Variable → Evaluation
-evaluation variable = record { value = variable.value; holder = variable.holder }
+evaluation variable = record { value = variable.value; holder = variable.holder; more = variable.more }
 
 -- the value is the text, where one of the variables has the name
 abbrev pub assigned_of : List ℕ → List ℕ → Option (List Variable) → Option Assigned
-assigned_of name text variables = option_map (λ variable. record { value = text }) (option_and_then (variable_named name) variables)
+assigned_of name text variables = option_map (λ variable. record { value = text; more = [] }) (option_and_then (variable_named name) variables)

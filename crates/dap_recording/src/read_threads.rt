@@ -15,11 +15,15 @@ pub(crate) struct ReadThreads {
 }
 
 impl Model for ReadThreads {
+    ghost use Rattle.std.specs.Coded.{codes};
+    ghost use Rattle.dap_json.specs.Stored.{coded_data};
     ghost use Rattle.std.specs.Prelude.{List as Items};
     ghost use Rattle.dap_recording.specs.declared.recording.RecordedThread.{RecordedThread as Thread};
     ghost use Rattle.dap_recording.specs.PrivateReadThreads.{HasIds};
 
     ghost Value = { Items Thread };
+
+    ghost coded = { Prim.hlevel (codes, coded_data) };
 
     ghost view = { λ t. t.threads.items };
 

@@ -12,7 +12,7 @@ use crate::sources::Sources;
 use crate::texts::Texts;
 use crate::{numbers, reading};
 use dap_debuggee::{Frame, Scope, Variable};
-use dap_json::List;
+use dap_json::{List, More};
 use serde_json::Value;
 use std::alloc::{AllocError, Global};
 use std::marker::Model;
@@ -53,6 +53,7 @@ fn variable(
         name,
         value: text,
         holder,
+        more: More::none(),
     })
 }
 
@@ -104,7 +105,11 @@ fn scope(
     let inner = children(texts, value, holders)?;
     let holder = holders.len() as u64;
     holders.push(List::new(inner))?;
-    Ok(Scope { name, holder })
+    Ok(Scope {
+        name,
+        holder,
+        more: More::none(),
+    })
 }
 
 #[tactic(auto, unfolding(crate::specs::Reading::scopes_of))]
@@ -146,9 +151,13 @@ pub(crate) struct Numbers {
 }
 
 impl Model for Numbers {
+    ghost use Rattle.std.specs.Coded.{codes};
+    ghost use Rattle.dap_json.specs.Stored.{coded_data};
     ghost use Rattle.dap_recording.specs.Reading.{Numbered};
 
     ghost Value = { Numbered };
+
+    ghost coded = { Prim.hlevel (codes, coded_data) };
 
     ghost view = { λ n. record { scopes = n.scopes.items; variables = n.variables.items; untold = n.untold.items } };
 }
@@ -241,6 +250,7 @@ fn frame(
         name,
         source,
         line,
+        more: More::none(),
     })
 }
 

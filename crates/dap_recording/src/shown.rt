@@ -7,7 +7,7 @@ ghost use Rattle.dap_recording.specs.Snapshot.{frames_in, if_in, is_among, is_in
 
 use crate::recording::{RecordedThread, Span};
 use dap_debuggee::{DebuggeeFault, Frame, Scope, Thread};
-use dap_json::List;
+use dap_json::{List, More};
 use std::alloc::{AllocError, Global};
 
 /// The threads, each with its id and its name.
@@ -19,6 +19,7 @@ pub fn threads(alloc: Global, threads: &[RecordedThread]) -> Result<Vec<Thread>,
         shown.push(Thread {
             id: thread.id,
             name: thread.name.clone()?,
+            more: More::none(),
         })?;
     }
     Ok(shown)
@@ -34,6 +35,7 @@ fn frames(alloc: Global, frames: &[Frame]) -> Result<Vec<Frame>, AllocError>
             name: frame.name.clone()?,
             source: frame.source,
             line: frame.line,
+            more: frame.more.clone()?,
         })?;
     }
     Ok(copy)
@@ -78,6 +80,7 @@ fn scopes(alloc: Global, scopes: &[Scope]) -> Result<Vec<Scope>, AllocError>
         copy.push(Scope {
             name: scope.name.clone()?,
             holder: scope.holder,
+            more: scope.more.clone()?,
         })?;
     }
     Ok(copy)

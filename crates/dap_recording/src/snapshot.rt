@@ -21,9 +21,13 @@ pub struct Snapshot {
 }
 
 impl Model for Snapshot {
+    ghost use Rattle.std.specs.Coded.{codes};
+    ghost use Rattle.dap_json.specs.Stored.{coded_data};
     ghost use Rattle.dap_recording.specs.Snapshot.{MomentAlone, IsAlone};
 
     ghost Value = { MomentAlone };
+
+    ghost coded = { Prim.hlevel (codes, coded_data) };
 
     ghost view = { λ s. record {
       moment = s.moment;

@@ -43,6 +43,7 @@ pub fn copied(alloc: Global, variables: &[Variable]) -> Result<Vec<Variable>, Al
             name: original.name.clone()?,
             value: original.value.clone()?,
             holder: original.holder,
+            more: original.more.clone()?,
         })?;
     }
     Ok(copy)
@@ -69,6 +70,7 @@ pub fn with_value(
                 variable.value.clone()?
             },
             holder: variable.holder,
+            more: variable.more.clone()?,
         })?;
         is_set = is_set || is_it;
     }
@@ -82,11 +84,15 @@ pub struct HolderMap {
 }
 
 impl Model for HolderMap {
+    ghost use Rattle.std.specs.Coded.{codes};
+    ghost use Rattle.dap_json.specs.Stored.{coded_data};
     ghost use Rattle.std.specs.Prelude.{List};
     ghost use Rattle.dap_recording.specs.Variables.{OfHolder};
     ghost use Rattle.dap_recording.specs.PrivateHolders.{entries_of};
 
     ghost Value = { List OfHolder };
+
+    ghost coded = { Prim.hlevel (codes, coded_data) };
 
     ghost view = { λ m. entries_of m.lists };
 }

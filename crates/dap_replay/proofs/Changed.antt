@@ -10,7 +10,7 @@ use Rattle.dap_recording.proofs.ReadSteps.{some_same}
 
 -- ---- what holds children
 
-holders-by : (b : Bool) (name value : List ℕ) (x : Variable) (xs : List Variable) → holders_in (with_value name value xs) ≡ holders_in xs → holders_in (if b then record { name = x.name; value = value; holder = x.holder } ∷ xs else x ∷ with_value name value xs) ≡ x.holder ∷ holders_in xs
+holders-by : (b : Bool) (name value : List ℕ) (x : Variable) (xs : List Variable) → holders_in (with_value name value xs) ≡ holders_in xs → holders_in (if b then record { name = x.name; value = value; holder = x.holder; more = x.more } ∷ xs else x ∷ with_value name value xs) ≡ x.holder ∷ holders_in xs
 holders-by true name value x xs rest = refl
 holders-by false name value x xs rest = ap (λ hs. x.holder ∷ hs) rest
 

@@ -18,7 +18,7 @@ use Rattle.dap_recording.specs.declared.recording.RecordedSource.{RecordedSource
 -- ---- six moments of one thread, the fifth of which waits
 
 abbrev frame : ℕ → Frame
-frame line = record { object = 0; name = codes "f"; source = Some 0; line = line }
+frame line = record { object = 0; name = codes "f"; source = Some 0; line = line; more = [] }
 
 -- the lines of its frames, the newest first
 abbrev moment : Bool → List ℕ → Moment
@@ -110,7 +110,7 @@ of_two_threads = (refl, refl, refl, refl)
 -- ---- two sources of one path
 
 abbrev in_second : Moment
-in_second = record { threads = record { id = pos 1; name = codes "main"; frames = record { object = 0; name = codes "f"; source = Some 1; line = 4 } ∷ [] } ∷ []; thread = 0; output = []; waits = false; stop = None; frames = record { from = 0; to = 0 }; holders = record { from = 0; to = 0 } }
+in_second = record { threads = record { id = pos 1; name = codes "main"; frames = record { object = 0; name = codes "f"; source = Some 1; line = 4; more = [] } ∷ [] } ∷ []; thread = 0; output = []; waits = false; stop = None; frames = record { from = 0; to = 0 }; holders = record { from = 0; to = 0 } }
 
 abbrev from_first : List (OfSource ℕ) → Move
 from_first set = move_of (record { name = codes "a"; path = Some (codes "/a.c"); text = codes "\n\n\n"; on_disk = false; lines = 3 } ∷ record { name = codes "b"; path = Some (codes "/a.c"); text = codes "\n\n\n\n"; on_disk = false; lines = 4 } ∷ []) (moment false (1 ∷ []) ∷ in_second ∷ []) (lines_in set) Continue 0
@@ -192,7 +192,7 @@ stop_while_held = refl
 -- ---- a frame without a source stands at no line
 
 abbrev without_a_source : Moment
-without_a_source = record { threads = record { id = pos 1; name = codes "main"; frames = record { object = 0; name = codes "f"; source = None; line = 0 } ∷ [] } ∷ []; thread = 0; output = []; waits = false; stop = None; frames = record { from = 0; to = 0 }; holders = record { from = 0; to = 0 } }
+without_a_source = record { threads = record { id = pos 1; name = codes "main"; frames = record { object = 0; name = codes "f"; source = None; line = 0; more = [] } ∷ [] } ∷ []; thread = 0; output = []; waits = false; stop = None; frames = record { from = 0; to = 0 }; holders = record { from = 0; to = 0 } }
 
 at_no_line : (is_at_breakpoint (lines_in (by_path (0 ∷ 1 ∷ []))) sources without_a_source ≡ false) × (is_at_breakpoint (lines_in (by_number 0 (0 ∷ []))) sources without_a_source ≡ false) × (is_at_breakpoint (lines_in (by_number 1 (0 ∷ []))) sources without_a_source ≡ false)
 at_no_line = (refl, refl, refl)

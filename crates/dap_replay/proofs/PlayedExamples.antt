@@ -114,37 +114,37 @@ lines = (refl, refl, refl)
 no_threads : ((shown_of fresh).threads ≡ []) × ((shown_of fresh).frames (pos 1) ≡ None) × ((shown_of (view_after at_first (to_end ∷ []))).threads ≡ [])
 no_threads = (refl, refl, refl)
 
-threads : ((shown_of at_first).threads ≡ record { id = pos 1; name = codes "main" } ∷ []) × ((shown_of at_first).frames (pos 1) ≡ Some (record { object = 0; name = codes "main"; source = Some 0; line = 1 } ∷ [])) × ((shown_of at_first).frames (pos 2) ≡ None)
+threads : ((shown_of at_first).threads ≡ record { id = pos 1; name = codes "main"; more = [] } ∷ []) × ((shown_of at_first).frames (pos 1) ≡ Some (record { object = 0; name = codes "main"; source = Some 0; line = 1; more = [] } ∷ [])) × ((shown_of at_first).frames (pos 2) ≡ None)
 threads = (refl, refl, refl)
 
-scopes : ((shown_of at_first).scopes 0 ≡ Some (record { name = codes "Locals"; holder = 1 } ∷ [])) × ((shown_of at_first).scopes 1 ≡ None) × ((shown_of at_first).scopes 4 ≡ None) × ((shown_of at_first).children 0 ≡ Some (record { name = codes "a"; value = codes "7"; holder = None } ∷ [])) × ((shown_of at_first).children 2 ≡ None)
+scopes : ((shown_of at_first).scopes 0 ≡ Some (record { name = codes "Locals"; holder = 1; more = [] } ∷ [])) × ((shown_of at_first).scopes 1 ≡ None) × ((shown_of at_first).scopes 4 ≡ None) × ((shown_of at_first).children 0 ≡ Some (record { name = codes "a"; value = codes "7"; holder = None; more = [] } ∷ [])) × ((shown_of at_first).children 2 ≡ None)
 scopes = (refl, refl, refl, refl, refl)
 
 -- the numbers of a moment are those of its frames and holders alone
-scopes_elsewhere : ((shown_of (view_after at_first (go StepIn ∷ []))).scopes 0 ≡ Some (record { name = codes "Locals"; holder = 1 } ∷ [])) × ((shown_of (view_after at_first (go StepIn ∷ to_poll ∷ []))).scopes 0 ≡ None) × ((shown_of (view_after at_first (go StepIn ∷ to_poll ∷ []))).scopes 1 ≡ Some []) × ((shown_of (view_after at_first (go StepIn ∷ to_poll ∷ []))).scopes 2 ≡ Some []) × ((shown_of (view_after at_first (go StepIn ∷ to_poll ∷ []))).scopes 3 ≡ None) × ((shown_of (view_after at_first (go StepIn ∷ to_poll ∷ []))).children 0 ≡ None) × ((shown_of (view_after at_first (go StepIn ∷ to_poll ∷ []))).evaluate (Some 0) (codes "x") ≡ None)
+scopes_elsewhere : ((shown_of (view_after at_first (go StepIn ∷ []))).scopes 0 ≡ Some (record { name = codes "Locals"; holder = 1; more = [] } ∷ [])) × ((shown_of (view_after at_first (go StepIn ∷ to_poll ∷ []))).scopes 0 ≡ None) × ((shown_of (view_after at_first (go StepIn ∷ to_poll ∷ []))).scopes 1 ≡ Some []) × ((shown_of (view_after at_first (go StepIn ∷ to_poll ∷ []))).scopes 2 ≡ Some []) × ((shown_of (view_after at_first (go StepIn ∷ to_poll ∷ []))).scopes 3 ≡ None) × ((shown_of (view_after at_first (go StepIn ∷ to_poll ∷ []))).children 0 ≡ None) × ((shown_of (view_after at_first (go StepIn ∷ to_poll ∷ []))).evaluate (Some 0) (codes "x") ≡ None)
 scopes_elsewhere = (refl, refl, refl, refl, refl, refl, refl)
 
 nothing_is_there : ((shown_of fresh).scopes 0 ≡ None) × ((shown_of fresh).children 0 ≡ None) × ((shown_of fresh).evaluate (Some 0) (codes "x") ≡ None) × ((shown_of (view_after at_first (to_end ∷ []))).scopes 0 ≡ None) × ((shown_of (view_after at_first (to_end ∷ []))).children 1 ≡ None)
 nothing_is_there = (refl, refl, refl, refl, refl)
 
 -- directly in a scope, and in a frame
-values : ((shown_of at_first).evaluate (Some 0) (codes "p") ≡ Some (record { value = codes "P"; holder = Some 0 })) × ((shown_of at_first).evaluate (Some 0) (codes "x") ≡ Some (record { value = codes "1"; holder = None })) × ((shown_of at_first).evaluate (Some 0) (codes "a") ≡ None) × ((shown_of at_first).evaluate None (codes "x") ≡ None) × ((shown_of at_first).evaluate (Some 1) (codes "x") ≡ None) × ((shown_of at_first).evaluate (Some 9) (codes "x") ≡ None)
+values : ((shown_of at_first).evaluate (Some 0) (codes "p") ≡ Some (record { value = codes "P"; holder = Some 0; more = [] })) × ((shown_of at_first).evaluate (Some 0) (codes "x") ≡ Some (record { value = codes "1"; holder = None; more = [] })) × ((shown_of at_first).evaluate (Some 0) (codes "a") ≡ None) × ((shown_of at_first).evaluate None (codes "x") ≡ None) × ((shown_of at_first).evaluate (Some 1) (codes "x") ≡ None) × ((shown_of at_first).evaluate (Some 9) (codes "x") ≡ None)
 values = (refl, refl, refl, refl, refl, refl)
 
 abbrev main_frame : Frame
-main_frame = record { object = 0; name = codes "main"; source = Some 0; line = 1 }
+main_frame = record { object = 0; name = codes "main"; source = Some 0; line = 1; more = [] }
 
 abbrev locals : Scope
-locals = record { name = codes "Locals"; holder = 1 }
+locals = record { name = codes "Locals"; holder = 1; more = [] }
 
 told : ShownCanBeAsked (shown_of at_first)
 told = told_can_be_asked at_first three_moments_is_recording tt
 
 -- the frame has scopes, its scope has variables, and so have a variable and a value of it
 asked_for_what_it_holds : ((shown_of at_first).frames (pos 1) ≡ Some (main_frame ∷ [])) × IsSome ((shown_of at_first).scopes main_frame.object) × IsSome ((shown_of at_first).children 1) × IsSome ((shown_of at_first).children 0)
-asked_for_what_it_holds = (refl, told.frames (pos 1) (main_frame ∷ []) 0 main_frame refl refl, told.scopes 0 (locals ∷ []) 0 locals refl refl, told.values (Some 0) (codes "p") (record { value = codes "P"; holder = Some 0 }) 0 refl refl)
+asked_for_what_it_holds = (refl, told.frames (pos 1) (main_frame ∷ []) 0 main_frame refl refl, told.scopes 0 (locals ∷ []) 0 locals refl refl, told.values (Some 0) (codes "p") (record { value = codes "P"; holder = Some 0; more = [] }) 0 refl refl)
 
-sources : ((shown_of fresh).sources ≡ record { name = codes "a.c"; path = Some (codes "/a.c"); on_disk = false } ∷ []) × ((shown_of fresh).content 0 ≡ Some (codes "one\ntwo\nthree\n")) × ((shown_of fresh).content 1 ≡ None)
+sources : ((shown_of fresh).sources ≡ record { name = codes "a.c"; path = Some (codes "/a.c"); on_disk = false; more = [] } ∷ []) × ((shown_of fresh).content 0 ≡ Some (codes "one\ntwo\nthree\n")) × ((shown_of fresh).content 1 ≡ None)
 sources = (refl, refl, refl)
 
 verified : ((shown_of fresh).verify (Path (codes "/a.c")) (3 ∷ 4 ∷ 0 ∷ 1 ∷ 4294967295 ∷ []) ≡ Some (true ∷ false ∷ false ∷ true ∷ false ∷ [])) × ((shown_of fresh).verify (Reference 1) (3 ∷ 4 ∷ []) ≡ Some (true ∷ false ∷ [])) × ((shown_of fresh).verify (Reference 2) (1 ∷ []) ≡ Some (false ∷ [])) × ((shown_of fresh).verify (Reference 0) (1 ∷ []) ≡ Some (false ∷ [])) × ((shown_of fresh).verify (Path (codes "a.c")) (1 ∷ []) ≡ Some (false ∷ [])) × ((shown_of fresh).verify (Reference 1) [] ≡ Some [])
@@ -174,7 +174,7 @@ abbrev with_moments : List Moment → Played
 with_moments moments = fresh_played (record { exit = pos 3; sources = three_moments.sources; moments = moments; scopes = []; variables = []; untold = [] })
 
 abbrev writing : Bool → List ℕ → Moment
-writing waits output = record { threads = record { id = pos 1; name = codes "main"; frames = record { object = 0; name = codes "main"; source = Some 0; line = 1 } ∷ [] } ∷ []; thread = 0; output = output; waits = waits; stop = None; frames = record { from = 0; to = 0 }; holders = record { from = 0; to = 0 } }
+writing waits output = record { threads = record { id = pos 1; name = codes "main"; frames = record { object = 0; name = codes "main"; source = Some 0; line = 1; more = [] } ∷ [] } ∷ []; thread = 0; output = output; waits = waits; stop = None; frames = record { from = 0; to = 0 }; holders = record { from = 0; to = 0 } }
 
 -- a run writes up to the moment that holds it, and the next one the rest
 output_before_a_hold : replies (view_after (with_moments (writing false [] ∷ writing true (codes "a") ∷ writing false (codes "b") ∷ writing false [] ∷ writing false (codes "c") ∷ [])) (to_start ∷ to_poll ∷ []))
@@ -217,13 +217,13 @@ abbrev with_scopes : List Scope → List (List Variable) → Played
 with_scopes scopes variables = fresh_played (record { exit = pos 0; sources = []; moments = three_moments.moments; scopes = scopes ∷ []; variables = variables; untold = [] })
 
 abbrev valued : List ℕ → List ℕ → Variable
-valued name value = record { name = name; value = value; holder = None }
+valued name value = record { name = name; value = value; holder = None; more = [] }
 
 abbrev two_scopes : Played
-two_scopes = view_after (with_scopes (record { name = codes "Locals"; holder = 0 } ∷ record { name = codes "Globals"; holder = 1 } ∷ []) ((valued (codes "x") (codes "1") ∷ valued (codes "x") (codes "2") ∷ []) ∷ (valued (codes "x") (codes "3") ∷ valued (codes "y") (codes "4") ∷ []) ∷ [])) (to_start ∷ [])
+two_scopes = view_after (with_scopes (record { name = codes "Locals"; holder = 0; more = [] } ∷ record { name = codes "Globals"; holder = 1; more = [] } ∷ []) ((valued (codes "x") (codes "1") ∷ valued (codes "x") (codes "2") ∷ []) ∷ (valued (codes "x") (codes "3") ∷ valued (codes "y") (codes "4") ∷ []) ∷ [])) (to_start ∷ [])
 
 -- of one name the first variable in the first scope
-one_name : ((shown_of two_scopes).evaluate (Some 0) (codes "x") ≡ Some (record { value = codes "1"; holder = None })) × ((shown_of two_scopes).evaluate (Some 0) (codes "y") ≡ Some (record { value = codes "4"; holder = None })) × ((shown_of two_scopes).evaluate (Some 0) [] ≡ None)
+one_name : ((shown_of two_scopes).evaluate (Some 0) (codes "x") ≡ Some (record { value = codes "1"; holder = None; more = [] })) × ((shown_of two_scopes).evaluate (Some 0) (codes "y") ≡ Some (record { value = codes "4"; holder = None; more = [] })) × ((shown_of two_scopes).evaluate (Some 0) [] ≡ None)
 one_name = (refl, refl, refl)
 
 -- ---- values that are set
@@ -235,25 +235,25 @@ abbrev x_is_9 : Played
 x_is_9 = view_after at_first (put 1 (codes "x") (codes "9") ∷ [])
 
 abbrev of_main : List ℕ → List ℕ → List Variable
-of_main x p = record { name = codes "x"; value = x; holder = None } ∷ record { name = codes "p"; value = p; holder = Some 0 } ∷ []
+of_main x p = record { name = codes "x"; value = x; holder = None; more = [] } ∷ record { name = codes "p"; value = p; holder = Some 0; more = [] } ∷ []
 
 -- a text is the value of each variable that is there
-told_before : ((shown_of at_first).assigned 1 (codes "x") (codes "9") ≡ Some (record { value = codes "9" })) × ((shown_of at_first).assigned 1 (codes "y") (codes "9") ≡ None) × ((shown_of at_first).assigned 2 (codes "x") (codes "9") ≡ None) × ((shown_of at_first).assigned 0 (codes "x") (codes "9") ≡ None) × ((shown_of fresh).assigned 1 (codes "x") (codes "9") ≡ None)
+told_before : ((shown_of at_first).assigned 1 (codes "x") (codes "9") ≡ Some (record { value = codes "9"; more = [] })) × ((shown_of at_first).assigned 1 (codes "y") (codes "9") ≡ None) × ((shown_of at_first).assigned 2 (codes "x") (codes "9") ≡ None) × ((shown_of at_first).assigned 0 (codes "x") (codes "9") ≡ None) × ((shown_of fresh).assigned 1 (codes "x") (codes "9") ≡ None)
 told_before = (refl, refl, refl, refl, refl)
 
 -- seen among the variables and by its name; set twice, and back
-set_and_seen : ((shown_of x_is_9).children 1 ≡ Some (of_main (codes "9") (codes "P"))) × ((shown_of x_is_9).evaluate (Some 0) (codes "x") ≡ Some (record { value = codes "9"; holder = None }))
+set_and_seen : ((shown_of x_is_9).children 1 ≡ Some (of_main (codes "9") (codes "P"))) × ((shown_of x_is_9).evaluate (Some 0) (codes "x") ≡ Some (record { value = codes "9"; holder = None; more = [] }))
     × ((shown_of (view_after x_is_9 (put 1 (codes "p") (codes "Q") ∷ []))).children 1 ≡ Some (of_main (codes "9") (codes "Q"))) × ((shown_of (view_after x_is_9 (put 1 (codes "x") (codes "") ∷ []))).children 1 ≡ Some (of_main [] (codes "P")))
     × ((shown_of (view_after x_is_9 (put 1 (codes "x") (codes "1") ∷ []))).children 1 ≡ Some (of_main (codes "1") (codes "P")))
 set_and_seen = (refl, refl, refl, refl, refl)
 
 -- at a holder inside another one, which keeps its variables
-set_inside : ((shown_of (view_after x_is_9 (put 0 (codes "a") (codes "8") ∷ []))).children 0 ≡ Some (record { name = codes "a"; value = codes "8"; holder = None } ∷ [])) × ((shown_of (view_after x_is_9 (put 0 (codes "a") (codes "8") ∷ []))).children 1 ≡ Some (of_main (codes "9") (codes "P")))
+set_inside : ((shown_of (view_after x_is_9 (put 0 (codes "a") (codes "8") ∷ []))).children 0 ≡ Some (record { name = codes "a"; value = codes "8"; holder = None; more = [] } ∷ [])) × ((shown_of (view_after x_is_9 (put 0 (codes "a") (codes "8") ∷ []))).children 1 ≡ Some (of_main (codes "9") (codes "P")))
 set_inside = (refl, refl)
 
 -- lost where the debuggee goes on, also where it comes back to the moment; kept where it refuses
-lost_and_kept : ((shown_of (view_after x_is_9 (go StepIn ∷ to_poll ∷ go StepBack ∷ to_poll ∷ []))).evaluate (Some 0) (codes "x") ≡ Some (record { value = codes "1"; holder = None })) × ((shown_of (view_after x_is_9 (go StepBack ∷ []))).evaluate (Some 0) (codes "x") ≡ Some (record { value = codes "1"; holder = None }))
-    × ((shown_of (view_after at_first (go Next ∷ put 1 (codes "x") (codes "9") ∷ go Next ∷ []))).evaluate (Some 0) (codes "x") ≡ Some (record { value = codes "9"; holder = None })) × ((view_after at_first (go Next ∷ put 1 (codes "x") (codes "9") ∷ go Next ∷ [])).last ≡ Some (record { asked = remembers.Resume Next (pos 1); reply = refused }))
+lost_and_kept : ((shown_of (view_after x_is_9 (go StepIn ∷ to_poll ∷ go StepBack ∷ to_poll ∷ []))).evaluate (Some 0) (codes "x") ≡ Some (record { value = codes "1"; holder = None; more = [] })) × ((shown_of (view_after x_is_9 (go StepBack ∷ []))).evaluate (Some 0) (codes "x") ≡ Some (record { value = codes "1"; holder = None; more = [] }))
+    × ((shown_of (view_after at_first (go Next ∷ put 1 (codes "x") (codes "9") ∷ go Next ∷ []))).evaluate (Some 0) (codes "x") ≡ Some (record { value = codes "9"; holder = None; more = [] })) × ((view_after at_first (go Next ∷ put 1 (codes "x") (codes "9") ∷ go Next ∷ [])).last ≡ Some (record { asked = remembers.Resume Next (pos 1); reply = refused }))
 lost_and_kept = (refl, refl, refl, refl)
 
 abbrev twice : Played

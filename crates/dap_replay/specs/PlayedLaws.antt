@@ -460,7 +460,8 @@ sets-one v holder name text a r is =
     let held = found-within (λ m. m.holders) (moment_shown v) holder (variables_held v holder) named.0 named.1 in
     record {
       value = text;
-      told = is ∙ ap (λ (value : List ℕ). Some (record { value = value })) named.2;
+      more = a.more;
+      told = is ∙ ap (λ (value : List ℕ). Some (record { value = value; more = a.more })) named.2;
       set = record {
         threads = refl;
         frames = λ t. refl;

@@ -2,7 +2,7 @@
 
 use crate::recorded::Recorded;
 use dap_debuggee::{Assigned, DebuggeeFault, Evaluation, Frame, Scope, State, Thread, Variable};
-use dap_json::Text;
+use dap_json::{More, Text};
 use dap_recording::{Moment, RecordedThread, shown, variables};
 use std::alloc::{AllocError, Global};
 
@@ -148,6 +148,7 @@ impl Recorded {
             Some(variable) => Ok(Evaluation {
                 value: variable.value.clone()?,
                 holder: variable.holder,
+                more: variable.more.clone()?,
             }),
         }
     }
@@ -169,6 +170,7 @@ impl Recorded {
             None => Err(DebuggeeFault::Refused),
             Some(_) => Ok(Assigned {
                 value: Text::copied(alloc, text)?,
+                more: More::none(),
             }),
         }
     }

@@ -75,12 +75,16 @@ pub struct Recorded {
 }
 
 impl Model for Recorded {
+    ghost use Rattle.std.specs.Coded.{codes};
+    ghost use Rattle.dap_json.specs.Stored.{coded_data};
     ghost use Rattle.std.specs.Prelude.{◌<◌, length};
     ghost use Rattle.dap_replay.specs.Played.{Played};
     ghost use Rattle.dap_replay.specs.PrivateHeld.{run_of, last_of, IsOutputWhole, HasRun, KeepHolders};
     ghost use Rattle.dap_recording.specs.Recording.{IsRecording};
 
     ghost Value = { Played };
+
+    ghost coded = { Prim.hlevel (codes, coded_data) };
 
     ghost view = { λ r. record {
       recording = r.recording;

@@ -34,7 +34,7 @@ threads-in-range Stopped = refl
 threads-in-range Gone = refl
 
 abbrev frame : Frame
-frame = record { object = 0; name = codes "main"; source = Some 0; line = 1 }
+frame = record { object = 0; name = codes "main"; source = Some 0; line = 1; more = [] }
 
 frames-in-range : (b : Bool) (frames : List Frame) → (if b then Some (frame ∷ []) else None) ≡ Some frames → list_all (is_frame 1) frames ≡ true
 frames-in-range true frames e = let same : frames ≡ frame ∷ [] = cc in rw same refl

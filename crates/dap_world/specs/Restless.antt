@@ -30,8 +30,8 @@ pub record Restless : Type 0 where
 
 abbrev pub threads_in : State → List Thread
 threads_in NotStarted = []
-threads_in Running = record { id = pos 1; name = codes "main" } ∷ []
-threads_in Stopped = record { id = pos 1; name = codes "main" } ∷ []
+threads_in Running = record { id = pos 1; name = codes "main"; more = [] } ∷ []
+threads_in Stopped = record { id = pos 1; name = codes "main"; more = [] } ∷ []
 threads_in Gone = []
 
 -- one thread with one frame, and nothing in it
@@ -42,12 +42,12 @@ restless_shown v = record {
   acts = v.acts;
   last = v.last;
   threads = threads_in v.state;
-  frames = λ thread. if int_eq thread (pos 1) then Some (record { object = 0; name = codes "main"; source = Some 0; line = 1 } ∷ []) else None;
+  frames = λ thread. if int_eq thread (pos 1) then Some (record { object = 0; name = codes "main"; source = Some 0; line = 1; more = [] } ∷ []) else None;
   scopes = λ frame. None;
   children = λ holder. None;
   evaluate = λ frame text. None;
   assigned = λ holder name text. None;
-  sources = record { name = codes "a.c"; path = Some (codes "/a.c"); on_disk = false } ∷ [];
+  sources = record { name = codes "a.c"; path = Some (codes "/a.c"); on_disk = false; more = [] } ∷ [];
   content = λ index. None;
   verify = λ source lines. None;
 }

@@ -22,14 +22,14 @@ one_more number (c ∷ calls) call =
     ap (λ rest. frame_of number c ∷ rest) (one_more (number + 1) calls call ∙ ap (λ n. frames_from (number + 1) calls ++ frame_of n call ∷ []) e)
 
 pub next_frame : (calls : List Call) (i : ℕ) (call : Call) (name : List ℕ) (line : ℕ) (frames more : List Frame) → i < length calls → call ≡ get_or calls i call → name ≡ call.name → line ≡ line_of call
-    → frames ≡ frames_from 0 (take i calls) → more ≡ frames ++ record { object = i; name = name; source = Some 0; line = line } ∷ [] → more ≡ frames_from 0 (take (i + 1) calls)
+    → frames ≡ frames_from 0 (take i calls) → more ≡ frames ++ record { object = i; name = name; source = Some 0; line = line; more = [] } ∷ [] → more ≡ frames_from 0 (take (i + 1) calls)
 next_frame calls i call name line frames more within at named lined so_far is =
     let number : i ≡ 0 + length (take i calls) = omega (arith, length-take i calls) in
     let taken : take (i + 1) calls ≡ take i calls ++ call ∷ [] = take_more calls i call within ∙ ap (λ c. take i calls ++ c ∷ []) (sym at) in
     is
-    ∙ ap (λ fs. fs ++ record { object = i; name = name; source = Some 0; line = line } ∷ []) so_far
-    ∙ ap (λ t. frames_from 0 (take i calls) ++ record { object = i; name = t; source = Some 0; line = line } ∷ []) named
-    ∙ ap (λ l. frames_from 0 (take i calls) ++ record { object = i; name = call.name; source = Some 0; line = l } ∷ []) lined
+    ∙ ap (λ fs. fs ++ record { object = i; name = name; source = Some 0; line = line; more = [] } ∷ []) so_far
+    ∙ ap (λ t. frames_from 0 (take i calls) ++ record { object = i; name = t; source = Some 0; line = line; more = [] } ∷ []) named
+    ∙ ap (λ l. frames_from 0 (take i calls) ++ record { object = i; name = call.name; source = Some 0; line = l; more = [] } ∷ []) lined
     ∙ ap (λ n. frames_from 0 (take i calls) ++ frame_of n call ∷ []) number
     ∙ sym (one_more 0 (take i calls) call)
     ∙ ap (λ cs. frames_from 0 cs) (sym taken)

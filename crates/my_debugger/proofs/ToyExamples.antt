@@ -44,7 +44,7 @@ scopes = (refl, refl)
 children : (children_in two 0 ≡ Some (variable_of x_is_20 ∷ [])) × (children_in two 1 ≡ Some []) × (children_in two 2 ≡ None)
 children = (refl, refl, refl)
 
-values : (evaluation_in two (Some 0) (codes "x") ≡ Some (record { value = decimal 20; holder = None })) × (evaluation_in two (Some 0) (codes "y") ≡ None) × (evaluation_in two (Some 1) (codes "x") ≡ None) × (evaluation_in two None (codes "x") ≡ None)
+values : (evaluation_in two (Some 0) (codes "x") ≡ Some (record { value = decimal 20; holder = None; more = [] })) × (evaluation_in two (Some 0) (codes "y") ≡ None) × (evaluation_in two (Some 1) (codes "x") ≡ None) × (evaluation_in two None (codes "x") ≡ None)
 values = (refl, refl, refl, refl)
 
 sources : (has_line (Path (codes "/toy/sample.toy")) 1 ≡ true) × (has_line (Path (codes "/toy/sample.toy")) 12 ≡ true) × (has_line (Path (codes "/toy/sample.toy")) 13 ≡ false) × (has_line (Path (codes "/toy/sample.toy")) 0 ≡ false) × (has_line (Path (codes "/b")) 1 ≡ false) × (has_line (Reference 1) 1 ≡ false)

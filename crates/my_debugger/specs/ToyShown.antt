@@ -47,7 +47,7 @@ abbrev pub line_of : Call → ℕ
 line_of call = min call.at 2147483646 + 1
 
 abbrev pub frame_of : ℕ → Call → Frame
-frame_of number call = record { object = number; name = call.name; source = Some 0; line = line_of call }
+frame_of number call = record { object = number; name = call.name; source = Some 0; line = line_of call; more = [] }
 
 -- numbered from a number on
 abbrev pub frames_from : ℕ → List Call → List Frame
@@ -56,15 +56,15 @@ frames_from number (call ∷ calls) = frame_of number call ∷ frames_from (numb
 
 -- a frame has one scope, with its own number
 abbrev pub scope_of : ℕ → Scope
-scope_of frame = record { name = codes "Locals"; holder = frame }
+scope_of frame = record { name = codes "Locals"; holder = frame; more = [] }
 
 abbrev pub variable_of : Local → Variable
-variable_of local = record { name = local.name; value = decimal local.value; holder = None }
+variable_of local = record { name = local.name; value = decimal local.value; holder = None; more = [] }
 
 -- ---- queries
 
 abbrev pub main_thread : Thread
-main_thread = record { id = pos 1; name = codes "main" }
+main_thread = record { id = pos 1; name = codes "main"; more = [] }
 
 abbrev pub threads_in : State → List Thread
 threads_in NotStarted = []
@@ -100,10 +100,10 @@ local_named name locals = find (λ local. bytes_eq name local.name) locals
 -- the value of a variable, by its name, in a frame
 abbrev pub evaluation_in : Option (List Call) → Option ℕ → List ℕ → Option Evaluation
 evaluation_in calls None text = None
-evaluation_in calls (Some frame) text = option_map (λ local. record { value = decimal local.value; holder = None }) (option_and_then (λ locals. local_named text locals) (locals_in calls frame))
+evaluation_in calls (Some frame) text = option_map (λ local. record { value = decimal local.value; holder = None; more = [] }) (option_and_then (λ locals. local_named text locals) (locals_in calls frame))
 
 abbrev pub the_source : Source
-the_source = record { name = NAME.now; path = Some PATH.now; on_disk = false }
+the_source = record { name = NAME.now; path = Some PATH.now; on_disk = false; more = [] }
 
 -- a breakpoint can stand on each of the twelve lines, under the path of the source
 abbrev pub has_line : SourceKey → ℕ → Bool

@@ -7,7 +7,7 @@ use crate::call::{Call, Local};
 use crate::program::{NAME, PATH};
 use dap_command::SourceKey;
 use dap_debuggee::{Frame, Scope, Source, Thread, Variable};
-use dap_json::Text;
+use dap_json::{More, Text};
 use std::alloc::{AllocError, Global};
 
 /// The only thread.
@@ -18,6 +18,7 @@ pub(crate) fn threads(alloc: Global) -> Result<Vec<Thread>, AllocError>
     threads.push(Thread {
         id: 1,
         name: Text::copied(alloc, "main")?,
+        more: More::none(),
     })?;
     Ok(threads)
 }
@@ -40,6 +41,7 @@ pub(crate) fn frames(alloc: Global, stack: &[Call]) -> Result<Vec<Frame>, AllocE
             name: call.name.clone()?,
             source: Some(0),
             line: line(call),
+            more: More::none(),
         })?;
     }
     Ok(frames)
@@ -53,6 +55,7 @@ pub(crate) fn scopes(alloc: Global, frame: u64) -> Result<Vec<Scope>, AllocError
     scopes.push(Scope {
         name: Text::copied(alloc, "Locals")?,
         holder: frame,
+        more: More::none(),
     })?;
     Ok(scopes)
 }
@@ -90,6 +93,7 @@ pub(crate) fn variables(alloc: Global, locals: &[Local]) -> Result<Vec<Variable>
             name: local.name.clone()?,
             value: Text::new(local.value.to_string(alloc)?),
             holder: None,
+            more: More::none(),
         })?;
     }
     Ok(variables)
@@ -103,6 +107,7 @@ pub(crate) fn source(alloc: Global) -> Result<Source, AllocError>
         name: Text::copied(alloc, NAME)?,
         path: Some(Text::copied(alloc, PATH)?),
         on_disk: false,
+        more: More::none(),
     })
 }
 

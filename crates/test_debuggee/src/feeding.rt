@@ -15,7 +15,7 @@
 use crate::playing::{add_answer, add_poll};
 use crate::telling::{Query, add_told};
 use dap_debuggee::{HasMail, Variable};
-use dap_json::{List, Text};
+use dap_json::{List, More, Text};
 use dap_live::{Coming, Dropped, HostAct, Live, Mail};
 use dap_recording::{Recording, Snapshot, Sources, Texts};
 use std::alloc::Global;
@@ -66,6 +66,7 @@ fn variable(alloc: Global, name: &str, value: &str) -> Option<Variable> {
         name: text(alloc, name)?,
         value: text(alloc, value)?,
         holder: None,
+        more: More::none(),
     })
 }
 

@@ -197,7 +197,7 @@ pub sets_values-stubborn : SetsValues shown_stubborn FollowsStubborn
 sets_values-stubborn v w holder name text r (inl f) = absurd (cc f.act)
 sets_values-stubborn v w holder name text r (inr f) =
     let inner = sets_values-played v.inner w.inner holder name long_value r f.inner in
-    record { value = inner.value; told = inner.told; set = one_value v w holder name inner.value inner.set }
+    record { value = inner.value; more = inner.more; told = inner.told; set = one_value v w holder name inner.value inner.set }
 
 -- a view of the same recording
 itself : (v : Played) → SameAnswers (shown_of v) (shown_of v)

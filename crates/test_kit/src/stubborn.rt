@@ -48,9 +48,13 @@ pub struct Stubborn {
 }
 
 impl Model for Stubborn {
+    ghost use Rattle.std.specs.Coded.{codes};
+    ghost use Rattle.dap_json.specs.Stored.{coded_data};
     ghost use Rattle.test_kit.specs.Stubborn.{StubbornView};
 
     ghost Value = { StubbornView };
+
+    ghost coded = { Prim.hlevel (codes, coded_data) };
 
     ghost view = { λ s. record { inner = s.inner; mood = s.mood } };
 }
