@@ -64,7 +64,8 @@ fn push_members(
 }
 
 impl More {
-    ghost use Rattle.std.specs.Prelude.{◌≡◌, [], IfOk, IsTrue};
+    ghost use Rattle.std.specs.Prelude.{◌≡◌, [], ◌∷◌, IfOk, IsTrue};
+    ghost use Rattle.serde_json.specs.Data.{string};
     ghost use Rattle.serde_json.specs.View.{view};
     ghost use Rattle.dap_json.specs.More.{IsMore, more_of};
 
@@ -73,6 +74,20 @@ impl More {
         ensures { result ≡ [] }
     {
         More { held: None }
+    }
+
+    /// One member, which is a text, such as the `type` of a variable.
+    pub fn text(alloc: Global, key: &str, value: &str) -> Result<More, AllocError>
+        ensures { IfOk result (λ more. more ≡ record { key = key.now; value = string value.now } ∷ []) }
+    {
+        let mut members = Vec::with_capacity(alloc, 1)?;
+        members.push(Member {
+            key: Text::copied(alloc, key)?,
+            value: Tree::shared(alloc, Value::try_from_str(alloc, value)?),
+        })?;
+        Ok(More {
+            held: Some(Arc::new(alloc, members)?),
+        })
     }
 
     /// The members of an object; `None` where a value is none, or its members cannot stand beside others: there is a float

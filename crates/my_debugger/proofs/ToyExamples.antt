@@ -9,7 +9,7 @@ use Rattle.my_debugger.specs.declared.call.Call.{Call}
 use Rattle.my_debugger.specs.declared.call.Local.{Local}
 use Rattle.my_debugger.specs.declared.news.News.TheVariants as news
 use Rattle.my_debugger.specs.declared.news.Reason.TheVariants.{Breakpoint, Step}
-use Rattle.my_debugger.specs.ToyShown.{fresh_toy, frame_of, frames_from, line_of, variable_of, main_thread, threads_in, calls_in, frames_in, scopes_in, scope_of, children_in, evaluation_in, has_line, shown_toy}
+use Rattle.my_debugger.specs.ToyShown.{of_its_type, fresh_toy, frame_of, frames_from, line_of, variable_of, main_thread, threads_in, calls_in, frames_in, scopes_in, scope_of, children_in, evaluation_in, has_line, shown_toy}
 use Rattle.my_debugger.specs.ToyActs.{happening_of, state_by, is_possible, set_after}
 
 abbrev x_is_20 : Local
@@ -44,7 +44,7 @@ scopes = (refl, refl)
 children : (children_in two 0 ≡ Some (variable_of x_is_20 ∷ [])) × (children_in two 1 ≡ Some []) × (children_in two 2 ≡ None)
 children = (refl, refl, refl)
 
-values : (evaluation_in two (Some 0) (codes "x") ≡ Some (record { value = decimal 20; holder = None; more = [] })) × (evaluation_in two (Some 0) (codes "y") ≡ None) × (evaluation_in two (Some 1) (codes "x") ≡ None) × (evaluation_in two None (codes "x") ≡ None)
+values : (evaluation_in two (Some 0) (codes "x") ≡ Some (record { value = decimal 20; holder = None; more = of_its_type })) × (evaluation_in two (Some 0) (codes "y") ≡ None) × (evaluation_in two (Some 1) (codes "x") ≡ None) × (evaluation_in two None (codes "x") ≡ None)
 values = (refl, refl, refl, refl)
 
 sources : (has_line (Path (codes "/toy/sample.toy")) 1 ≡ true) × (has_line (Path (codes "/toy/sample.toy")) 12 ≡ true) × (has_line (Path (codes "/toy/sample.toy")) 13 ≡ false) × (has_line (Path (codes "/toy/sample.toy")) 0 ≡ false) × (has_line (Path (codes "/b")) 1 ≡ false) × (has_line (Reference 1) 1 ≡ false)

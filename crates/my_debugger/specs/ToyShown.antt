@@ -6,6 +6,8 @@ use Rattle.std.specs.Ordering.{int_eq}
 use Rattle.dap_command.specs.SameSource.{is_source}
 use Rattle.dap_command.specs.declared.source_key.SourceKey.{SourceKey}
 use Rattle.dap_command.specs.declared.source_key.SourceKey.TheVariants.{Path}
+use Rattle.serde_json.specs.Data.{string}
+use Rattle.dap_json.specs.declared.more.Member.{Member}
 use Rattle.dap_debuggee.specs.Shown.{Shown, Last}
 use Rattle.dap_debuggee.specs.declared.answers.State.{State}
 use Rattle.dap_debuggee.specs.declared.answers.State.TheVariants.{NotStarted, Running, Stopped, Gone}
@@ -58,8 +60,11 @@ frames_from number (call ∷ calls) = frame_of number call ∷ frames_from (numb
 abbrev pub scope_of : ℕ → Scope
 scope_of frame = record { name = codes "Locals"; holder = frame; more = [] }
 
+abbrev pub of_its_type : List Member
+of_its_type = record { key = codes "type"; value = string (codes "number") } ∷ []
+
 abbrev pub variable_of : Local → Variable
-variable_of local = record { name = local.name; value = decimal local.value; holder = None; more = [] }
+variable_of local = record { name = local.name; value = decimal local.value; holder = None; more = of_its_type }
 
 -- ---- queries
 
@@ -100,7 +105,7 @@ local_named name locals = find (λ local. bytes_eq name local.name) locals
 -- the value of a variable, by its name, in a frame
 abbrev pub evaluation_in : Option (List Call) → Option ℕ → List ℕ → Option Evaluation
 evaluation_in calls None text = None
-evaluation_in calls (Some frame) text = option_map (λ local. record { value = decimal local.value; holder = None; more = [] }) (option_and_then (λ locals. local_named text locals) (locals_in calls frame))
+evaluation_in calls (Some frame) text = option_map (λ local. record { value = decimal local.value; holder = None; more = of_its_type }) (option_and_then (λ locals. local_named text locals) (locals_in calls frame))
 
 abbrev pub the_source : Source
 the_source = record { name = NAME.now; path = Some PATH.now; on_disk = false; more = [] }

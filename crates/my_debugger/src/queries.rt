@@ -1,7 +1,7 @@
 //! What is shown of a program: its calls as frames and variables, and its source.
 ghost use Rattle.std.specs.Prelude.{◌≡◌, [], ◌∷◌, IfOk, map, option_map};
 ghost use Rattle.dap_debuggee.specs.Shown.{window as window_of};
-ghost use Rattle.my_debugger.specs.ToyShown.{main_thread, line_of, frames_from, scope_of, local_named, variable_of, the_source, has_line};
+ghost use Rattle.my_debugger.specs.ToyShown.{of_its_type, main_thread, line_of, frames_from, scope_of, local_named, variable_of, the_source, has_line};
 
 use crate::call::{Call, Local};
 use crate::program::{NAME, PATH};
@@ -84,6 +84,13 @@ pub(crate) fn window(locals: &[Local], start: usize, count: usize) -> &[Local]
     part
 }
 
+/// Each value is a number, and its type says so to an editor that shows types.
+pub(crate) fn of_its_type(alloc: Global) -> Result<More, AllocError>
+    ensures { IfOk result (λ more. more ≡ of_its_type) }
+{
+    More::text(alloc, "type", "number")
+}
+
 pub(crate) fn variables(alloc: Global, locals: &[Local]) -> Result<Vec<Variable>, AllocError>
     ensures { IfOk result (λ variables. variables.items ≡ map variable_of locals.now) }
 {
@@ -93,7 +100,7 @@ pub(crate) fn variables(alloc: Global, locals: &[Local]) -> Result<Vec<Variable>
             name: local.name.clone()?,
             value: Text::new(local.value.to_string(alloc)?),
             holder: None,
-            more: More::none(),
+            more: of_its_type(alloc)?,
         })?;
     }
     Ok(variables)

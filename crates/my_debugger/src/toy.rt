@@ -9,7 +9,7 @@ use dap_debuggee::{
     Asked, Assigned, Debuggee, DebuggeeFault, Evaluation, Frame, Happening, How, Scope, Source,
     State, Thread, Variable,
 };
-use dap_json::{More, Text};
+use dap_json::Text;
 use dap_tables::SourceMap;
 use std::alloc::{AllocError, Global};
 use std::marker::Model;
@@ -360,7 +360,7 @@ impl Debuggee for Toy {
             Some(local) => Ok(Evaluation {
                 value: Text::new(local.value.to_string(alloc)?),
                 holder: None,
-                more: More::none(),
+                more: queries::of_its_type(alloc)?,
             }),
         }
     }
