@@ -3,7 +3,7 @@ ghost use Rattle.std.specs.Prelude.{◌+◌, ◌≤◌};
 
 use crate::checking::CheckFault;
 use crate::found::{CheckMode, LineFound};
-use crate::judging::judge_body;
+use crate::judging::{found_of, judge_body};
 use crate::reading::read_in;
 use crate::rule::OpenRequest;
 use crate::seen::Seen;
@@ -77,7 +77,7 @@ impl Checker {
             return Ok(None);
         }
         let mode = self.mode;
-        let read = read_in(
+        let mut read = read_in(
             alloc,
             &mut self.scratch,
             &mut self.given,
@@ -86,24 +86,20 @@ impl Checker {
             text,
         )?;
         let rule = self.seen.least_broken(mode.any_seq, &read.line);
-        let judged = judge_body(
+        let broken = judge_body(
             alloc,
             &mut self.scratch,
             mode.bodies,
             number,
-            read,
+            &mut read,
             rule,
             text,
         )?;
-        let read = &judged.read;
-        let noted = self.seen.note(alloc, &read.line, read.form, &self.given);
-        match noted {
-            Ok(()) => {
-                self.number = number;
-                Ok(Some(judged.found(mode.whole)))
-            }
-            Err(_) => Err(CheckFault::OutOfMemory),
-        }
+        self.seen
+            .note(alloc, &read.line, read.form, &self.given)?;
+        let found = found_of(alloc, mode.whole, read, broken)?;
+        self.number = number;
+        Ok(Some(found))
     }
 
     /// The requests of the lines taken that nothing has answered, in the order of their lines.

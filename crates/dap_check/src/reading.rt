@@ -212,12 +212,37 @@ fn read_body(
 }
 
 /// A line as it was read.
-#[derive(Drop)]
 pub(crate) struct LineRead {
     pub(crate) line: Line,
     pub(crate) form: Form,
     /// Whether it was seen that the message has no fault. Else it may have one.
     pub(crate) is_sound: bool,
+}
+
+impl LineRead {
+    pub(crate) fn into_line(self) -> Line
+        ensures { result ≡ self.line }
+    {
+        let LineRead {
+            line,
+            form: _,
+            is_sound: _,
+        } = self;
+        line
+    }
+}
+
+// By hand, so that whoever drops one makes a call: each place that takes a message apart takes room for its parts.
+impl Drop for LineRead {
+    #[inline(never)]
+    fn drop(self) {
+        let LineRead {
+            line,
+            form: _,
+            is_sound: _,
+        } = self;
+        drop(line);
+    }
 }
 
 /// The line of this number, without its tree where no rule looks at it; what it gives is gathered then.

@@ -61,6 +61,7 @@ impl Notes {
     }
 
     /// Takes note of a line that was read whole.
+    #[inline(never)]
     pub(crate) fn note_found(&mut self, alloc: Global, found: &LineFound) -> Result<(), AllocError>
         requires { AreBelow (2 ^ 64 - 1) self.old.trails }
         ensures notes { OnOk result ((mode : CheckMode) (earlier : List TheLine) (line : TheLine) → mode.whole ≡ true → IsFound mode earlier line found.now → AreNotes self.old earlier → AreNotes self.new (earlier ++ line ∷ [])) }

@@ -13,5 +13,5 @@ returns-in-Some-clause-notes c =
     on_ok c.note.result _ _ c.note.ensures.notes
     (λ noted mode earlier line whole is notes.
     let there = given_whole mode earlier line c.args.found.now whole is in
-    let same : c.in-Some.line ≡ line = cc in
+    let same : c.in-Some.line.value ≡ line = cc in
     subst (λ (l : Line). AreNotes c.note.new.self (earlier ++ l ∷ [])) same (noted earlier notes))
