@@ -16,7 +16,6 @@ use Rattle.dap_check.specs.declared.found.LineFound.{LineFound}
 use Rattle.dap_check.specs.declared.reading.LineRead.{LineRead}
 use Rattle.dap_check.specs.declared.rule.Rule.{Rule}
 use Rattle.dap_shape.specs.Faults.{fault_in}
-use Rattle.dap_check.proofs.BareLemmas.{number_as}
 use Rattle.dap_check.proofs.Judged.{is_empty, lines_skipped, lines_more}
 use Rattle.dap_check.specs.declared.line.Form.{Form}
 use Rattle.dap_check.specs.declared.line.Form.TheVariants.{Whole, Bare}
@@ -73,9 +72,9 @@ module _ (mode : CheckMode) (earlier : List Line) (given : GatheredReferences) (
 
   -- what is found of it
   pub found_by : (read : LineRead) (broken : Option Broken) → IsJudged mode earlier given real read broken → (whole body : Bool) → mode.whole ≡ whole → body ≡ is_of_body broken
-      → (found : LineFound) → found.number ≡ read.line.number → found.side ≡ read.line.side → found.broken ≡ broken → line_in found ≡ (if whole || body then Some read.line else None) → IsFound mode earlier real found
+      → (found : LineFound) → found.number ≡ real.number → found.side ≡ read.line.side → found.broken ≡ broken → line_in found ≡ (if whole || body then Some read.line else None) → IsFound mode earlier real found
   found_by read broken is whole body asked of_body found number side same e = record {
-    numbered = number ∙ number_as read.form given read.line real is.read;
+    numbered = number;
     side = side ∙ side_as read.form given read.line real is.read;
     broken = subst (λ b. IsBroken mode earlier real b) (sym same) is.broken;
     given_back =

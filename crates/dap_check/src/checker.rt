@@ -3,7 +3,7 @@ ghost use Rattle.std.specs.Prelude.{◌+◌, ◌≤◌};
 
 use crate::checking::CheckFault;
 use crate::found::{CheckMode, LineFound};
-use crate::judging::{found_of, judge_body};
+use crate::judging::{is_either, is_of_rule_8, judge_body};
 use crate::reading::read_in;
 use crate::rule::OpenRequest;
 use crate::seen::Seen;
@@ -95,11 +95,19 @@ impl Checker {
             rule,
             text,
         )?;
-        self.seen
-            .note(alloc, &read.line, read.form, &self.given)?;
-        let found = found_of(alloc, mode.whole, read, broken)?;
+        let side = read.line.side;
+        let is_of_8 = is_of_rule_8(&broken);
+        let is_given_back = is_either(mode.whole, is_of_8);
+        let line = self
+            .seen
+            .note_read(alloc, read, &self.given, is_given_back)?;
         self.number = number;
-        Ok(Some(found))
+        Ok(Some(LineFound {
+            number,
+            side,
+            broken,
+            line,
+        }))
     }
 
     /// The requests of the lines taken that nothing has answered, in the order of their lines.

@@ -1,8 +1,8 @@
-//! What a line breaks, and what is found of it.
-ghost use Rattle.std.specs.Prelude.{◌≡◌, ◌×◌, ◌||◌, List, OnOk, IfOk, IfErr, IsTrue, Some, None, true, if◌then◌else◌, option_map};
+//! What a line breaks by rule 8, where it breaks none of the seven.
+ghost use Rattle.std.specs.Prelude.{◌≡◌, ◌||◌, List, OnOk, IfOk, IfErr, IsTrue, None, true};
 ghost use Rattle.dap_command.specs.declared.gathering.GatheredReferences.{GatheredReferences};
 ghost use Rattle.dap_shape.specs.Faults.{fault_in};
-ghost use Rattle.dap_check.specs.Checking.{is_of_body, IsFound, IsBrokenBody};
+ghost use Rattle.dap_check.specs.Checking.{is_of_body, IsBrokenBody};
 ghost use Rattle.dap_check.specs.Legal.{least_broken};
 ghost use Rattle.dap_check.specs.PrivateBare.{IsReadAs};
 ghost use Rattle.dap_check.specs.PrivateJudged.{IsJudged};
@@ -11,8 +11,8 @@ ghost use Rattle.dap_check.specs.declared.found.CheckMode.{CheckMode as TheMode}
 ghost use Rattle.dap_check.specs.declared.line.Line.{Line as TheLine};
 
 use crate::checking::CheckFault;
-use crate::found::{Broken, LineFound};
-use crate::line::{Form, Line};
+use crate::found::Broken;
+use crate::line::Form;
 use crate::reading::{LineRead, read_line_with};
 use crate::rule::Rule;
 use dap_envelope::Kind;
@@ -21,7 +21,17 @@ use dap_json::object_reader::Scratch;
 use dap_shape::message_fault;
 use std::alloc::{AllocError, Global};
 
-// ---- what it breaks
+pub(crate) fn is_of_rule_8(broken: &Option<Broken>) -> bool
+    ensures { result ≡ is_of_body broken.now }
+{
+    matches!(broken, Some(Broken::Body(_)))
+}
+
+pub(crate) fn is_either(one: bool, other: bool) -> bool
+    ensures { result ≡ (one || other) }
+{
+    one || other
+}
 
 /// Reads the line again, with its tree, where it was read without.
 fn make_whole(
@@ -113,60 +123,4 @@ pub(crate) fn judge_body(
         Some(rule) => Ok(Some(Broken::Rule(rule))),
         None => judge_unbroken(alloc, scratch, bodies, number, read, text),
     }
-}
-
-// ---- what is found of it
-
-fn is_of_rule_8(broken: &Option<Broken>) -> bool
-    ensures { result ≡ is_of_body broken.now }
-{
-    matches!(broken, Some(Broken::Body(_)))
-}
-
-fn is_either(one: bool, other: bool) -> bool
-    ensures { result ≡ (one || other) }
-{
-    one || other
-}
-
-#[inline(never)]
-fn boxed(alloc: Global, read: LineRead) -> Result<Option<Box<Line>>, AllocError>
-    ensures { IfOk result (λ line. option_map (λ boxed. boxed.value) line ≡ Some read.line) }
-{
-    Ok(Some(Box::new(alloc, read.into_line())?))
-}
-
-fn given_back(
-    alloc: Global,
-    is_given_back: bool,
-    read: LineRead,
-) -> Result<Option<Box<Line>>, AllocError>
-    ensures { IfOk result (λ line. option_map (λ boxed. boxed.value) line ≡ (if is_given_back then Some read.line else None)) }
-{
-    if is_given_back {
-        return boxed(alloc, read);
-    }
-    Ok(None)
-}
-
-/// What is found of a line that breaks this.
-pub(crate) fn found_of(
-    alloc: Global,
-    whole: bool,
-    read: LineRead,
-    broken: Option<Broken>,
-) -> Result<LineFound, AllocError>
-    ensures { IfOk result (λ found. (mode : TheMode) (earlier : List TheLine) (given : GatheredReferences) (real : TheLine) → mode.whole ≡ whole → IsJudged mode earlier given real read broken → IsFound mode earlier real found) }
-{
-    let number = read.line.number;
-    let side = read.line.side;
-    let is_of_8 = is_of_rule_8(&broken);
-    let is_given_back = is_either(whole, is_of_8);
-    let line = given_back(alloc, is_given_back, read)?;
-    Ok(LineFound {
-        number,
-        side,
-        broken,
-        line,
-    })
 }

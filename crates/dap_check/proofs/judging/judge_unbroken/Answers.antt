@@ -10,4 +10,4 @@ returns-then-is_done-clause-judged c = λ mode earlier given real asked line rea
 pub returns-clause-judged : goal.returns-clause-judged
 returns-clause-judged c =
     if_ok c.judge_message.result _ _ c.judge_message.ensures.judged (λ broken are mode earlier given real asked line read faultless whole least.
-        are mode earlier given real (asked ∙ are_asked c.args.bodies c.args.read.now.is_sound (sym c.is_either-is_done.ensures ∙ c.if-is_done.false)) line read least)
+    are mode earlier given real (asked ∙ are_asked c.args.bodies c.args.read.now.is_sound (sym c.is_either-is_done.ensures ∙ c.if-is_done.false)) line read least)
