@@ -49,8 +49,12 @@ fn make_whole(
     match read.form {
         Form::Whole => Ok(()),
         Form::Bare => {
-            read.line = read_line_with(alloc, scratch, number, text)?;
-            read.form = Form::Whole;
+            let line = read_line_with(alloc, scratch, number, text)?;
+            *read = LineRead {
+                line,
+                form: Form::Whole,
+                is_sound: false,
+            };
             Ok(())
         }
     }

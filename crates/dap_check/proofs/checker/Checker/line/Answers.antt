@@ -4,6 +4,7 @@ use Rattle.std.proofs.lemmas.Bool.Decides.{nat_tests}
 use Rattle.dap_check.specs.Checking.{IsFound}
 use Rattle.dap_check.specs.Transcript.{IsLine}
 use Rattle.dap_check.specs.declared.found.CheckMode.{CheckMode}
+use Rattle.dap_check.specs.declared.found.LineFound.{LineFound}
 use Rattle.dap_check.proofs.BareLemmas.{least_as}
 use Rattle.dap_check.proofs.JudgedLines.{found_by, taken_empty, taken_line}
 use Rattle.dap_check.proofs.checker.Checker.line.Goals as goal
@@ -23,9 +24,10 @@ returns-clause-found c = λ mode texts lines is.
     let least = c.least_broken-rule.ensures lines is.seen ∙ least_as self.mode.any_seq lines c.in_ok-read.read.form _ c.in_ok-read.read.line real read.2 in
     let judged = c.in_ok-broken.ensures.judged self.mode lines _ real refl read.1 read.2 read.3 c.in_ok-read.ensures.whole least in
     let back = c.in_ok-line.ensures.line ∙ ap (λ b. if b then Some c.judge_body.new.read.line else None) c.is_either-is_given_back.ensures in
-    let found = found_by self.mode lines _ real c.judge_body.new.read c.in_ok-broken.broken judged self.mode.whole c.is_of_rule_8-is_of_8.result refl c.is_of_rule_8-is_of_8.ensures _ (sym read.1.numbered) refl refl back in
+    let told : LineFound = record { number = self.number + 1; side = c.judge_body.new.read.line.side; broken = c.in_ok-broken.broken; line = c.in_ok-line.line } in
+    let found = found_by self.mode lines _ real c.judge_body.new.read c.in_ok-broken.broken judged self.mode.whole c.is_of_rule_8-is_of_8.result refl c.is_of_rule_8-is_of_8.ensures told (sym read.1.numbered) refl refl back in
     let seen = c.in_ok-line.ensures.seen lines real judged.read is.seen in
-    let P : CheckMode → Type 0 = λ m. IsFound m lines real _ in (
+    let P : CheckMode → Type 0 = λ m. IsFound m lines real told in (
       some,
       (real, numbered, subst P is.asked found, taken_line mode texts lines self _ is refl c.args.text.now refl real some read.1 seen),
     )
