@@ -77,14 +77,19 @@ impl Checker {
             return Ok(None);
         }
         let mode = self.mode;
-        let mut read = read_in(
+        let read = read_in(
             alloc,
             &mut self.scratch,
             &mut self.given,
             mode,
             number,
             text,
-        )?;
+        );
+        // (`?` would move the line twice)
+        let mut read = match read {
+            Ok(read) => read,
+            Err(fault) => return Err(fault),
+        };
         let rule = self.seen.least_broken(mode.any_seq, &read.line);
         let broken = judge_body(
             alloc,

@@ -3,8 +3,9 @@
 //! Most messages are long for their trees' sake, and a tree costs most of the time of reading. The rules look at few of
 //! them: at what `initialize` and `capabilities` offer, and at what a request names. The references that a response gives
 //! are gathered with no tree.
-ghost use Rattle.std.specs.Prelude.{◌≡◌, drop, true, false, None, MatchOption, IfOk, IfErr, IsTrue};
+ghost use Rattle.std.specs.Prelude.{◌≡◌, drop, true, false, None, MatchOption, IfSome, IfOk, IfErr, IsTrue};
 ghost use Rattle.dap_envelope.specs.Heading.{IsHeadingOf, IsKindOf};
+ghost use Rattle.dap_envelope.specs.Meaning.{Msg};
 ghost use Rattle.dap_envelope.specs.ResponseReferences.{AreGivenIn};
 ghost use Rattle.dap_envelope.specs.declared.message.Kind.{Kind as TheKind};
 ghost use Rattle.dap_envelope.specs.declared.message.Message.{Message as TheMessage};
@@ -159,7 +160,7 @@ impl LineRead {
 
 // By hand, so that whoever drops one makes a call: each place that takes a message apart takes room for its parts.
 impl Drop for LineRead {
-    #[inline(never)]
+    #[inline(always)]
     fn drop(self) {
         let LineRead {
             line,
@@ -174,7 +175,6 @@ impl Drop for LineRead {
 // as much as a rule.
 
 /// The line of a side whose message has a heading, without its tree and its reason.
-#[inline(never)]
 fn bare_line(
     alloc: Global,
     number: u64,
@@ -228,7 +228,23 @@ fn whole_line(
     }
 }
 
+/// The heading of the message that a body is, unless a rule looks at its tree; what it gives is gathered.
+fn short_heading<'a>(
+    scratch: &'a mut Scratch,
+    given: &mut GatheredReferences,
+    body: &'a [u8],
+) -> Option<Heading<'a>>
+    ensures { IfSome result (λ heading. (m : TheMessage) × Msg body.entry.now m × IsHeadingOf heading m × (looked_at m.kind ≡ false) × AreGivenIn given.new m.kind) }
+{
+    let heading = read_heading_and_references(scratch, given, body)?;
+    if is_looked_at(&heading.kind) {
+        return None;
+    }
+    Some(heading)
+}
+
 /// The same without its tree, unless a rule looks at that; what it gives is gathered.
+#[inline(always)]
 fn short_line(
     alloc: Global,
     scratch: &mut Scratch,
@@ -240,13 +256,10 @@ fn short_line(
     ensures line { IfOk result (IsReadFrom number side body.now given.new) }
     ensures refused { IfErr result (IsUnread number body.now) }
 {
-    let Some(heading) = read_heading_and_references(scratch, given, body) else {
-        return whole_line(alloc, scratch, number, side, body);
-    };
-    if is_looked_at(&heading.kind) {
-        return whole_line(alloc, scratch, number, side, body);
+    match short_heading(scratch, given, body) {
+        Some(heading) => bare_line(alloc, number, side, &heading, false),
+        None => whole_line(alloc, scratch, number, side, body),
     }
-    bare_line(alloc, number, side, &heading, false)
 }
 
 /// The same, looked out for faults on the way.

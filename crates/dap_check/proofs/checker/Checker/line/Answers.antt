@@ -17,12 +17,12 @@ returns-then-is_empty-clause-found c = λ mode texts lines is.
 pub returns-clause-found : goal.returns-clause-found
 returns-clause-found c = λ mode texts lines is.
     let self = c.args.self.now in
-    let read = c.in_ok-read.ensures.line in
+    let read = c.in-Ok.ensures.line in
     let real = read.0 in
     let some : 0 < length c.args.text.now = grind (arith, nat_tests) in
     let numbered = subst (λ n. IsLine (n + 1) c.args.text.now real) is.count read.1 in
-    let least = c.least_broken-rule.ensures lines is.seen ∙ least_as self.mode.any_seq lines c.in_ok-read.read.form _ c.in_ok-read.read.line real read.2 in
-    let judged = c.in_ok-broken.ensures.judged self.mode lines _ real refl read.1 read.2 read.3 c.in_ok-read.ensures.whole least in
+    let least = c.least_broken-rule.ensures lines is.seen ∙ least_as self.mode.any_seq lines c.in-Ok.read.form _ c.in-Ok.read.line real read.2 in
+    let judged = c.in_ok-broken.ensures.judged self.mode lines _ real refl read.1 read.2 read.3 c.in-Ok.ensures.whole least in
     let back = c.in_ok-line.ensures.line ∙ ap (λ b. if b then Some c.judge_body.new.read.line else None) c.is_either-is_given_back.ensures in
     let told : LineFound = record { number = self.number + 1; side = c.judge_body.new.read.line.side; broken = c.in_ok-broken.broken; line = c.in_ok-line.line } in
     let found = found_by self.mode lines _ real c.judge_body.new.read c.in_ok-broken.broken judged self.mode.whole c.is_of_rule_8-is_of_8.result refl c.is_of_rule_8-is_of_8.ensures told (sym read.1.numbered) refl refl back in
