@@ -4,7 +4,7 @@ ghost use Rattle.std.specs.Prelude.{◌+◌, ◌≤◌};
 use crate::checking::CheckFault;
 use crate::found::{CheckMode, LineFound};
 use crate::judging::{is_either, is_of_rule_8, judge_body};
-use crate::reading::read_in;
+use crate::reading::{LineRead, read_in};
 use crate::rule::OpenRequest;
 use crate::seen::Seen;
 use crate::unanswered::in_order;
@@ -27,10 +27,13 @@ pub struct Checker {
 }
 
 impl Checker {
-    ghost use Rattle.std.specs.Prelude.{◌≡◌, ◌≢◌, ◌-◌, ◌^◌, ◌<◌, [], List, ℕ, length, OnOk, IfOk, IfErr, IfSome};
+    ghost use Rattle.std.specs.Prelude.{◌≡◌, ◌≢◌, ◌-◌, ◌^◌, ◌<◌, [], List, ℕ, length, OnOk, IfOk, IfErr, IfSome, IsTrue, None, true};
     ghost use Rattle.dap_check.specs.Checking.{HasTaken, TakesText, taken_by};
     ghost use Rattle.dap_check.specs.Findings.{open_requests};
-    ghost use Rattle.dap_check.specs.Transcript.{Refuses};
+    ghost use Rattle.dap_check.specs.PrivateBare.{IsReadAs};
+    ghost use Rattle.dap_check.specs.Transcript.{IsLine, Refuses};
+    ghost use Rattle.dap_shape.specs.Faults.{fault_in};
+    ghost use Rattle.dap_check.specs.declared.line.Form.{Form};
     ghost use Rattle.dap_check.specs.declared.checking.CheckFault.{CheckFault};
     ghost use Rattle.dap_check.specs.declared.found.CheckMode.{CheckMode};
     ghost use Rattle.dap_check.specs.declared.line.Line.{Line as TheLine};
@@ -85,11 +88,29 @@ impl Checker {
             number,
             text,
         );
-        // (`?` would move the line twice)
-        let mut read = match read {
-            Ok(read) => read,
-            Err(fault) => return Err(fault),
-        };
+        match read {
+            Ok(read) => self.take_read(alloc, number, text, read),
+            Err(fault) => Err(fault),
+        }
+    }
+
+    /// Judges the next line as it was read, and takes note of it.
+    fn take_read(
+        &mut self,
+        alloc: Global,
+        number: u64,
+        text: &[u8],
+        mut read: LineRead,
+    ) -> Result<Option<LineFound>, CheckFault>
+        requires next { number ≡ taken_by self.old + 1 }
+        requires below { taken_by self.old < 2 ^ 64 - 1 }
+        ensures found { IfOk result (λ found. (mode : CheckMode) (texts : List (List ℕ)) (lines : List TheLine) (real : TheLine) → HasTaken mode texts lines self.old → 0 < length text.now → IsLine number text.now real → IsReadAs read.form self.old.given read.line real → (IsTrue read.is_sound → fault_in real.message.kind ≡ None) → (self.old.mode.whole ≡ true → read.form ≡ Form.Whole) → TakesText mode texts lines text.now found self.new) }
+        ensures one { OnOk result (taken_by self.new ≡ taken_by self.old + 1) }
+        ensures same { IfErr result (λ fault. taken_by self.new ≡ taken_by self.old) }
+        ensures refused { IfErr result (Refuses number text.now) }
+        ensures kept { IfErr result (λ fault. fault ≢ CheckFault.OutOfMemory → (mode : CheckMode) (texts : List (List ℕ)) (lines : List TheLine) → HasTaken mode texts lines self.old → HasTaken mode texts lines self.new) }
+    {
+        let mode = self.mode;
         let rule = self.seen.least_broken(mode.any_seq, &read.line);
         let broken = judge_body(
             alloc,
