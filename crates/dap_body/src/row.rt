@@ -27,6 +27,7 @@ pub(crate) trait Fields: Drop {
 
 // ---- fields
 
+#[inline(always)]
 #[tactic(auto, unfolding(crate::specs::PrivateText::wrote))]
 pub(crate) fn put_number(out: &mut Writer, key: &str, n: u64) -> Result<(), AllocError>
     ensures adds { OnOk result (out.new.tokens ≡ wrote (key.now, whole n) out.old.tokens) }

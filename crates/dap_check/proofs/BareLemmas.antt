@@ -18,7 +18,7 @@ use Rattle.dap_command.specs.declared.command.Command.TheVariants as command
 use Rattle.dap_envelope.specs.declared.message.Message.{Message}
 use Rattle.dap_envelope.specs.declared.message.Kind.{Kind}
 use Rattle.dap_envelope.specs.declared.message.Kind.TheVariants.{Request, Response, Event, Other}
-use Rattle.dap_check.specs.PrivateBare.{is_looked_at, bare_kind, bare_line, IsReadBody, IsReadAs, gathered_frames_for, gathered_frames, gathered_holders_for, gathered_holders, gathers_frame, gathers_holder}
+use Rattle.dap_check.specs.PrivateBare.{is_looked_at, bare_kind, bare_line, IsReadAs, gathered_frames_for, gathered_frames, gathered_holders_for, gathered_holders, gathers_frame, gathers_holder}
 use Rattle.dap_check.specs.Kept.{AreCounts, ArePending, ArePhases, AreReferences, reference_after, IsFirst, Begins, AreWaiting, open_at, waiting_after, IsOffered, offer_after, IsSeen}
 use Rattle.dap_check.specs.Findings.{is_open_as, request_of}
 use Rattle.dap_check.specs.Legal.{all_rules, least_broken}
@@ -292,10 +292,3 @@ module _ (old new : References) (line : Line) (earlier : List Line) (is : AreRef
       holder n =
           ap (λ b. reference_after b (gathers_holder n given line) (sorted.contains nat_cmp old.holders n)) goes
           ∙ ap (λ b. reference_after (resumes real) b (sorted.contains nat_cmp old.holders n)) (ap (gathers_holder n given) read.0 ∙ holder_alike real.number real.side real.message.seq n given real.message.kind read.2)
-
--- ---- what is read
-
-pub line_read : (number : ℕ) (side : Side) (form : Form) (given : GatheredReferences) (read m : Message) → IsReadBody form given read m
-    → IsReadAs form given (record { number = number; side = side; message = read }) (record { number = number; side = side; message = m })
-line_read number side Whole given read m is = ap (λ x. record { number = number; side = side; message = x }) is
-line_read number side Bare given read m is = (ap (λ x. record { number = number; side = side; message = x }) is.0, is.1, is.2)

@@ -2,7 +2,7 @@
 use Rattle.std.proofs.Common.{◌≡◌, ℕ, ◌+◌, ◌<◌, List, [], ◌∷◌, ◌++◌, length, length-append, Bool, true, false, Option, Some, None, refl, sym, ap, ◌∙◌, subst, arith}
 use Rattle.std.specs.Prelude.{not, ◌||◌, if◌then◌else◌}
 use Rattle.dap_command.specs.declared.gathering.GatheredReferences.{GatheredReferences}
-use Rattle.dap_check.specs.Checking.{is_of_body, IsFound, IsBrokenBody, IsBroken, HasTaken, taken_by}
+use Rattle.dap_check.specs.Checking.{is_of_body, line_in, IsFound, IsBrokenBody, IsBroken, HasTaken, taken_by}
 use Rattle.dap_check.specs.Legal.{least_broken}
 use Rattle.dap_check.specs.PrivateBare.{IsReadAs}
 use Rattle.dap_check.specs.PrivateJudged.{IsJudged}
@@ -12,11 +12,10 @@ use Rattle.dap_check.specs.declared.checker.Checker.{Checker}
 use Rattle.dap_check.specs.declared.found.Broken.{Broken}
 use Rattle.dap_check.specs.declared.found.Broken.TheVariants.{Rule as OfRule, Body as OfBody}
 use Rattle.dap_check.specs.declared.found.CheckMode.{CheckMode}
-use Rattle.dap_check.specs.declared.judging.LineJudged.{LineJudged}
+use Rattle.dap_check.specs.declared.found.LineFound.{LineFound}
 use Rattle.dap_check.specs.declared.reading.LineRead.{LineRead}
 use Rattle.dap_check.specs.declared.rule.Rule.{Rule}
 use Rattle.dap_shape.specs.Faults.{fault_in}
-use Rattle.dap_check.proofs.BareLemmas.{number_as}
 use Rattle.dap_check.proofs.Judged.{is_empty, lines_skipped, lines_more}
 use Rattle.dap_check.specs.declared.line.Form.{Form}
 use Rattle.dap_check.specs.declared.line.Form.TheVariants.{Whole, Bare}
@@ -51,10 +50,10 @@ are_asked false sound e = absurd (cc e)
 -- ---- what it breaks
 
 module _ (mode : CheckMode) (earlier : List Line) (given : GatheredReferences) (real : Line) where
-  pub judged_rule : (read : LineRead) (rule : Rule) → IsReadAs read.form given read.line real → (mode.whole ≡ true → read.form ≡ Whole) → least_broken mode.any_seq earlier real ≡ Some rule → IsJudged mode earlier given real (record { read = read; broken = Some (OfRule rule) })
+  pub judged_rule : (read : LineRead) (rule : Rule) → IsReadAs read.form given read.line real → (mode.whole ≡ true → read.form ≡ Whole) → least_broken mode.any_seq earlier real ≡ Some rule → IsJudged mode earlier given real read (Some (OfRule rule))
   judged_rule read rule is whole least = record { read = is; broken = least; body = λ e. absurd (cc e); whole = whole }
 
-  pub judged_none : (read : LineRead) → IsReadAs read.form given read.line real → (mode.whole ≡ true → read.form ≡ Whole) → least_broken mode.any_seq earlier real ≡ None → (mode.bodies ≡ true → fault_in real.message.kind ≡ None) → IsJudged mode earlier given real (record { read = read; broken = None })
+  pub judged_none : (read : LineRead) → IsReadAs read.form given read.line real → (mode.whole ≡ true → read.form ≡ Whole) → least_broken mode.any_seq earlier real ≡ None → (mode.bodies ≡ true → fault_in real.message.kind ≡ None) → IsJudged mode earlier given real read None
   judged_none read is whole least sound = record { read = is; broken = (least, sound); body = λ e. absurd (cc e); whole = whole }
 
   body_by : (broken : Option Broken) → least_broken mode.any_seq earlier real ≡ None → mode.bodies ≡ true → IsBrokenBody real.message.kind broken → IsBroken mode earlier real broken
@@ -62,27 +61,28 @@ module _ (mode : CheckMode) (earlier : List Line) (given : GatheredReferences) (
   body_by (Some (OfRule rule)) least bodies is = absurd is
   body_by (Some (OfBody fault)) least bodies is = (least, bodies, is)
 
-  pub judged_body : (line : Line) (broken : Option Broken) → line ≡ real → least_broken mode.any_seq earlier real ≡ None → mode.bodies ≡ true → IsBrokenBody line.message.kind broken
-      → IsJudged mode earlier given real (record { read = record { line = line; form = Whole; is_sound = false }; broken = broken })
-  judged_body line broken same least bodies is = record {
-    read = same;
-    broken = body_by broken least bodies (subst (λ (l : Line). IsBrokenBody l.message.kind broken) same is);
-    body = λ e. refl;
-    whole = λ e. refl;
+  pub judged_body : (read : LineRead) (broken : Option Broken) → (read.line ≡ real) × (read.form ≡ Whole) → least_broken mode.any_seq earlier real ≡ None → mode.bodies ≡ true → IsBrokenBody read.line.message.kind broken
+      → IsJudged mode earlier given real read broken
+  judged_body read broken is_whole least bodies is = record {
+    read = subst (λ form. IsReadAs form given read.line real) (sym is_whole.1) is_whole.0;
+    broken = body_by broken least bodies (subst (λ (l : Line). IsBrokenBody l.message.kind broken) is_whole.0 is);
+    body = λ e. is_whole.1;
+    whole = λ e. is_whole.1;
   }
 
   -- what is found of it
-  pub found_of : (judged : LineJudged) → IsJudged mode earlier given real judged → (whole body : Bool) → mode.whole ≡ whole → body ≡ is_of_body judged.broken → (back : Option Line) → back ≡ (if whole || body then Some judged.read.line else None)
-      → IsFound mode earlier real (record { number = judged.read.line.number; side = judged.read.line.side; broken = judged.broken; line = back })
-  found_of judged is whole body asked of_body back e = record {
-    numbered = number_as judged.read.form given judged.read.line real is.read;
-    side = side_as judged.read.form given judged.read.line real is.read;
-    broken = is.broken;
+  pub found_by : (read : LineRead) (broken : Option Broken) → IsJudged mode earlier given real read broken → (whole body : Bool) → mode.whole ≡ whole → body ≡ is_of_body broken
+      → (found : LineFound) → found.number ≡ real.number → found.side ≡ read.line.side → found.broken ≡ broken → line_in found ≡ (if whole || body then Some read.line else None) → IsFound mode earlier real found
+  found_by read broken is whole body asked of_body found number side same e = record {
+    numbered = number;
+    side = side ∙ side_as read.form given read.line real is.read;
+    broken = subst (λ b. IsBroken mode earlier real b) (sym same) is.broken;
     given_back =
         e
-        ∙ ap (λ b. if b || body then Some judged.read.line else None) (sym asked)
-        ∙ ap (λ b. if mode.whole || b then Some judged.read.line else None) of_body
-        ∙ given_back judged.read.form given judged.read.line real is.read mode.whole (is_of_body judged.broken) is.whole is.body;
+        ∙ ap (λ b. if b || body then Some read.line else None) (sym asked)
+        ∙ ap (λ b. if mode.whole || b then Some read.line else None) of_body
+        ∙ given_back read.form given read.line real is.read mode.whole (is_of_body broken) is.whole is.body
+        ∙ ap (λ b. if mode.whole || is_of_body b then Some real else None) (sym same);
   }
 
 -- ---- what a checker has taken

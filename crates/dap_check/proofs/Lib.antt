@@ -21,4 +21,5 @@ pub mod ByPlaces
 pub mod RulesByPlaces
 pub mod Flags
 pub mod BareLemmas
+pub mod ReadLines
 pub mod Ordered

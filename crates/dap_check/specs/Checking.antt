@@ -1,6 +1,6 @@
 -- What a checker of lines has taken, and what it finds of the next one. The rules stand in `Rules`, what a message has to hold
 -- in `dap_shape`. That rule 8 counts last, and where it is asked for alone, is this profile's choice.
-use Rattle.std.specs.Prelude.{◌≡◌, ℕ, ◌+◌, ◌<◌, List, [], ◌∷◌, ◌++◌, length, Bool, true, false, ◌||◌, if◌then◌else◌, Option, Some, None}
+use Rattle.std.specs.Prelude.{◌≡◌, ℕ, ◌+◌, ◌<◌, List, [], ◌∷◌, ◌++◌, length, Bool, true, false, ◌||◌, if◌then◌else◌, Option, Some, None, option_map}
 use Rattle.dap_envelope.specs.declared.message.Kind.{Kind}
 use Rattle.dap_shape.specs.Faults.{fault_in}
 use Rattle.dap_shape.specs.Seen.{fault_seen}
@@ -39,12 +39,16 @@ IsBroken mode earlier line (Some (OfBody fault)) = (least_broken mode.any_seq ea
 
 -- ---- what is found of a line
 
+-- the line that is given back
+abbrev pub line_in : LineFound → Option Line
+line_in found = option_map (λ boxed. boxed.value) found.line
+
 pub record IsFound (mode : CheckMode) (earlier : List Line) (line : Line) (found : LineFound) : Type 0 where
   pub numbered : found.number ≡ line.number
   pub side : found.side ≡ line.side
   pub broken : IsBroken mode earlier line found.broken
   -- with its message where that is asked for, and where it breaks rule 8
-  pub given_back : found.line ≡ (if mode.whole || is_of_body found.broken then Some line else None)
+  pub given_back : line_in found ≡ (if mode.whole || is_of_body found.broken then Some line else None)
 
 -- ---- what a checker has taken
 

@@ -11,6 +11,7 @@ pub mod Transcript
 pub mod ReadingLaws
 pub mod Kept
 pub mod PrivateOpen
+pub mod PrivateRead
 pub mod PrivateBare
 pub mod Checking
 pub mod PrivateJudged

@@ -8,13 +8,13 @@ use Rattle.dap_envelope.specs.ResponseReferences.{AreGivenIn}
 use Rattle.dap_envelope.specs.Refusals.{Bad}
 use Rattle.dap_command.specs.declared.command.Command.{Command}
 use Rattle.dap_command.specs.declared.gathering.GatheredReferences.{GatheredReferences}
-use Rattle.dap_envelope.specs.declared.fault.BodyFault.{BodyFault}
-use Rattle.dap_envelope.specs.declared.fault.BodyFault.TheVariants.{Refused, OutOfMemory}
 use Rattle.dap_envelope.specs.declared.message.Message.{Message}
 use Rattle.dap_envelope.specs.declared.message.Kind.{Kind}
 use Rattle.dap_envelope.specs.declared.message.Kind.TheVariants.{Request, Response, Event, Other}
 use Rattle.dap_check.specs.Lines.{is_among, is_of}
 use Rattle.dap_check.specs.Rules.{naming_frames, naming_holders, contains_number}
+use Rattle.dap_check.specs.declared.checking.CheckFault.{CheckFault}
+use Rattle.dap_check.specs.declared.checking.CheckFault.TheVariants.{BadLine, Body, OutOfMemory}
 use Rattle.dap_check.specs.declared.line.Line.{Line}
 use Rattle.dap_check.specs.declared.line.Side.TheVariants.{Adapter}
 use Rattle.dap_check.specs.declared.line.Form.{Form}
@@ -44,11 +44,7 @@ bare_message m = record { seq = m.seq; kind = bare_kind m.kind }
 abbrev pub bare_line : Line → Line
 bare_line line = record { number = line.number; side = line.side; message = bare_message line.message }
 
--- a message was read whole, or without its tree, and then a rule looks at no more than at the references that were gathered
-abbrev pub IsReadBody : Form → GatheredReferences → Message → Message → Type 0
-IsReadBody Whole given read real = read ≡ real
-IsReadBody Bare given read real = (read ≡ bare_message real) × (is_looked_at real.kind ≡ false) × AreGivenIn given real.kind
-
+-- a line was read whole, or without its tree, and then a rule looks at no more than at the references that were gathered
 abbrev pub IsReadAs : Form → GatheredReferences → Line → Line → Type 0
 IsReadAs Whole given read real = read ≡ real
 IsReadAs Bare given read real = (read ≡ bare_line real) × (is_looked_at real.message.kind ≡ false) × AreGivenIn given real.message.kind
@@ -80,7 +76,8 @@ gathers_frame n given line = is_of Adapter line && contains_number n (gathered_f
 abbrev pub gathers_holder : ℕ → GatheredReferences → Line → Bool
 gathers_holder n given line = is_of Adapter line && contains_number n (gathered_holders given line.message.kind)
 
--- why a body is not read
-abbrev pub IsUnread : List ℕ → BodyFault → Type 0
-IsUnread body (Refused cause) = Bad body cause
-IsUnread body OutOfMemory = Unit {0}
+-- why the body of a line of this number is not read
+abbrev pub IsUnread : ℕ → List ℕ → CheckFault → Type 0
+IsUnread number body (BadLine line) = ⊥
+IsUnread number body (Body line cause) = Bad body cause × (line ≡ number)
+IsUnread number body OutOfMemory = Unit {0}

@@ -8,18 +8,18 @@ use Rattle.dap_check.specs.declared.checking.Progress.{Progress}
 use Rattle.dap_check.specs.declared.found.Broken.{Broken}
 use Rattle.dap_check.specs.declared.found.Broken.TheVariants.{Rule as OfRule, Body as OfBody}
 use Rattle.dap_check.specs.declared.found.CheckMode.{CheckMode}
-use Rattle.dap_check.specs.declared.judging.LineJudged.{LineJudged}
 use Rattle.dap_check.specs.declared.line.Form.TheVariants.{Whole}
 use Rattle.dap_check.specs.declared.line.Line.{Line}
+use Rattle.dap_check.specs.declared.reading.LineRead.{LineRead}
 use Rattle.dap_check.specs.declared.rule.AnySeq.{AnySeq}
 use Rattle.dap_check.specs.declared.rule.Rule.{Rule}
 
-pub record IsJudged (mode : CheckMode) (earlier : List Line) (given : GatheredReferences) (real : Line) (judged : LineJudged) : Type 0 where
-  pub read : IsReadAs judged.read.form given judged.read.line real
-  pub broken : IsBroken mode earlier real judged.broken
+pub record IsJudged (mode : CheckMode) (earlier : List Line) (given : GatheredReferences) (real : Line) (as_read : LineRead) (found : Option Broken) : Type 0 where
+  pub read : IsReadAs as_read.form given as_read.line real
+  pub broken : IsBroken mode earlier real found
   -- it has its tree where rule 8 is broken, and where that is asked for
-  pub body : is_of_body judged.broken ≡ true → judged.read.form ≡ Whole
-  pub whole : mode.whole ≡ true → judged.read.form ≡ Whole
+  pub body : is_of_body found ≡ true → as_read.form ≡ Whole
+  pub whole : mode.whole ≡ true → as_read.form ≡ Whole
 
 -- which of the seven rules
 abbrev pub rule_in : Option Broken → Option Rule

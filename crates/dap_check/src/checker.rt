@@ -3,8 +3,8 @@ ghost use Rattle.std.specs.Prelude.{◌+◌, ◌≤◌};
 
 use crate::checking::CheckFault;
 use crate::found::{CheckMode, LineFound};
-use crate::judging::judge_body;
-use crate::reading::read_in;
+use crate::judging::{is_either, is_of_rule_8, judge_body};
+use crate::reading::{LineRead, read_in};
 use crate::rule::OpenRequest;
 use crate::seen::Seen;
 use crate::unanswered::in_order;
@@ -27,10 +27,13 @@ pub struct Checker {
 }
 
 impl Checker {
-    ghost use Rattle.std.specs.Prelude.{◌≡◌, ◌≢◌, ◌-◌, ◌^◌, ◌<◌, [], List, ℕ, length, OnOk, IfOk, IfErr, IfSome};
+    ghost use Rattle.std.specs.Prelude.{◌≡◌, ◌≢◌, ◌-◌, ◌^◌, ◌<◌, [], List, ℕ, length, OnOk, IfOk, IfErr, IfSome, IsTrue, None, true};
     ghost use Rattle.dap_check.specs.Checking.{HasTaken, TakesText, taken_by};
     ghost use Rattle.dap_check.specs.Findings.{open_requests};
-    ghost use Rattle.dap_check.specs.Transcript.{Refuses};
+    ghost use Rattle.dap_check.specs.PrivateBare.{IsReadAs};
+    ghost use Rattle.dap_check.specs.Transcript.{IsLine, Refuses};
+    ghost use Rattle.dap_shape.specs.Faults.{fault_in};
+    ghost use Rattle.dap_check.specs.declared.line.Form.{Form};
     ghost use Rattle.dap_check.specs.declared.checking.CheckFault.{CheckFault};
     ghost use Rattle.dap_check.specs.declared.found.CheckMode.{CheckMode};
     ghost use Rattle.dap_check.specs.declared.line.Line.{Line as TheLine};
@@ -84,26 +87,53 @@ impl Checker {
             mode,
             number,
             text,
-        )?;
+        );
+        match read {
+            Ok(read) => self.take_read(alloc, number, text, read),
+            Err(fault) => Err(fault),
+        }
+    }
+
+    /// Judges the next line as it was read, and takes note of it.
+    fn take_read(
+        &mut self,
+        alloc: Global,
+        number: u64,
+        text: &[u8],
+        mut read: LineRead,
+    ) -> Result<Option<LineFound>, CheckFault>
+        requires next { number ≡ taken_by self.old + 1 }
+        requires below { taken_by self.old < 2 ^ 64 - 1 }
+        ensures found { IfOk result (λ found. (mode : CheckMode) (texts : List (List ℕ)) (lines : List TheLine) (real : TheLine) → HasTaken mode texts lines self.old → 0 < length text.now → IsLine number text.now real → IsReadAs read.form self.old.given read.line real → (IsTrue read.is_sound → fault_in real.message.kind ≡ None) → (self.old.mode.whole ≡ true → read.form ≡ Form.Whole) → TakesText mode texts lines text.now found self.new) }
+        ensures one { OnOk result (taken_by self.new ≡ taken_by self.old + 1) }
+        ensures same { IfErr result (λ fault. taken_by self.new ≡ taken_by self.old) }
+        ensures refused { IfErr result (Refuses number text.now) }
+        ensures kept { IfErr result (λ fault. fault ≢ CheckFault.OutOfMemory → (mode : CheckMode) (texts : List (List ℕ)) (lines : List TheLine) → HasTaken mode texts lines self.old → HasTaken mode texts lines self.new) }
+    {
+        let mode = self.mode;
         let rule = self.seen.least_broken(mode.any_seq, &read.line);
-        let judged = judge_body(
+        let broken = judge_body(
             alloc,
             &mut self.scratch,
             mode.bodies,
             number,
-            read,
+            &mut read,
             rule,
             text,
         )?;
-        let read = &judged.read;
-        let noted = self.seen.note(alloc, &read.line, read.form, &self.given);
-        match noted {
-            Ok(()) => {
-                self.number = number;
-                Ok(Some(judged.found(mode.whole)))
-            }
-            Err(_) => Err(CheckFault::OutOfMemory),
-        }
+        let side = read.line.side;
+        let is_of_8 = is_of_rule_8(&broken);
+        let is_given_back = is_either(mode.whole, is_of_8);
+        let line = self
+            .seen
+            .note_read(alloc, read, &self.given, is_given_back)?;
+        self.number = number;
+        Ok(Some(LineFound {
+            number,
+            side,
+            broken,
+            line,
+        }))
     }
 
     /// The requests of the lines taken that nothing has answered, in the order of their lines.

@@ -48,5 +48,5 @@ pub struct LineFound {
     pub side: Side,
     pub broken: Option<Broken>,
     /// The line with its message: where that is asked for, and where it breaks rule 8.
-    pub line: Option<Line>,
+    pub line: Option<Box<Line>>,
 }

@@ -3,13 +3,15 @@
 //! Most messages are long for their trees' sake, and a tree costs most of the time of reading. The rules look at few of
 //! them: at what `initialize` and `capabilities` offer, and at what a request names. The references that a response gives
 //! are gathered with no tree.
-ghost use Rattle.std.specs.Prelude.{◌≡◌, drop, true, false, MatchOption, IfSome, IfOk, IfErr, IsTrue};
+ghost use Rattle.std.specs.Prelude.{◌≡◌, drop, true, false, None, MatchOption, IfSome, IfOk, IfErr, IsTrue};
 ghost use Rattle.dap_envelope.specs.Heading.{IsHeadingOf, IsKindOf};
 ghost use Rattle.dap_envelope.specs.Meaning.{Msg};
+ghost use Rattle.dap_envelope.specs.ResponseReferences.{AreGivenIn};
 ghost use Rattle.dap_envelope.specs.declared.message.Kind.{Kind as TheKind};
 ghost use Rattle.dap_envelope.specs.declared.message.Message.{Message as TheMessage};
 ghost use Rattle.dap_shape.specs.Faults.{fault_in};
-ghost use Rattle.dap_check.specs.PrivateBare.{bare_kind as bare_kind_of, bare_message, is_looked_at as looked_at, IsReadBody, IsReadAs, IsUnread};
+ghost use Rattle.dap_check.specs.PrivateBare.{bare_kind as bare_kind_of, bare_message, is_looked_at as looked_at, IsReadAs, IsUnread};
+ghost use Rattle.dap_check.specs.PrivateRead.{IsReadOf, IsReadFrom};
 ghost use Rattle.dap_check.specs.Transcript.{side_of, IsLine, Refuses};
 ghost use Rattle.dap_check.specs.declared.line.Line.{Line as TheLine};
 
@@ -135,84 +137,7 @@ fn bare(alloc: Global, heading: &Heading<'_>) -> Result<Message, AllocError>
     })
 }
 
-/// The message with a heading, without its tree, unless a rule looks at that.
-fn bare_unless_looked_at(
-    alloc: Global,
-    heading: &Heading<'_>,
-) -> Result<Option<Message>, AllocError>
-    ensures { IfOk result (λ read. IfSome read (λ bare. (m : TheMessage) → IsHeadingOf heading.now m → (bare ≡ bare_message m) × (looked_at m.kind ≡ false))) }
-{
-    if is_looked_at(&heading.kind) {
-        return Ok(None);
-    }
-    Ok(Some(bare(alloc, heading)?))
-}
-
-/// The message that a body is, without its tree, unless a rule looks at that; what it gives is gathered. Where it is asked
-/// for, it is looked out for faults on the way.
-fn read_short(
-    alloc: Global,
-    scratch: &mut Scratch,
-    given: &mut GatheredReferences,
-    bodies: bool,
-    body: &[u8],
-) -> Result<Option<(Message, bool)>, AllocError>
-    ensures { IfOk result (λ read. IfSome read (λ short. (m : TheMessage) × Msg body.now m × IsReadBody Form.Bare given.new short.0 m × (IsTrue short.1 → fault_in m.kind ≡ None))) }
-{
-    if bodies {
-        if let Some((heading, is_sound)) = read_heading_and_shape(scratch, given, body) {
-            return match bare_unless_looked_at(alloc, &heading)? {
-                Some(message) => Ok(Some((message, is_sound))),
-                None => Ok(None),
-            };
-        }
-    }
-    let Some(heading) = read_heading_and_references(scratch, given, body) else {
-        return Ok(None);
-    };
-    match bare_unless_looked_at(alloc, &heading)? {
-        Some(message) => Ok(Some((message, false))),
-        None => Ok(None),
-    }
-}
-
-/// A body as it was read.
-#[derive(Drop)]
-pub(crate) struct BodyRead {
-    pub(crate) message: Message,
-    pub(crate) form: Form,
-    /// Whether it was seen that the message has no fault. Else it may have one.
-    pub(crate) is_sound: bool,
-}
-
-/// The message that a body is, without its tree where no rule looks at it; what it gives is gathered then, and it is looked
-/// out for faults on the way.
-fn read_body(
-    alloc: Global,
-    scratch: &mut Scratch,
-    given: &mut GatheredReferences,
-    bodies: bool,
-    body: &[u8],
-) -> Result<BodyRead, BodyFault>
-    ensures message { IfOk result (λ read. (m : TheMessage) × Msg body.now m × IsReadBody read.form given.new read.message m × (IsTrue read.is_sound → fault_in m.kind ≡ None)) }
-    ensures refused { IfErr result (IsUnread body.now) }
-{
-    if let Some((message, is_sound)) = read_short(alloc, scratch, given, bodies, body)? {
-        return Ok(BodyRead {
-            message,
-            form: Form::Bare,
-            is_sound,
-        });
-    }
-    Ok(BodyRead {
-        message: read_message_with(alloc, body, scratch)?,
-        form: Form::Whole,
-        is_sound: false,
-    })
-}
-
 /// A line as it was read.
-#[derive(Drop)]
 pub(crate) struct LineRead {
     pub(crate) line: Line,
     pub(crate) form: Form,
@@ -220,30 +145,80 @@ pub(crate) struct LineRead {
     pub(crate) is_sound: bool,
 }
 
-/// The line of this number, without its tree where no rule looks at it; what it gives is gathered then.
-pub(crate) fn read_bare(
+impl LineRead {
+    pub(crate) fn into_line(self) -> Line
+        ensures { result ≡ self.line }
+    {
+        let LineRead {
+            line,
+            form: _,
+            is_sound: _,
+        } = self;
+        line
+    }
+}
+
+// By hand, so that whoever drops one makes a call: each place that takes a message apart takes room for its parts.
+impl Drop for LineRead {
+    #[inline(always)]
+    fn drop(self) {
+        let LineRead {
+            line,
+            form: _,
+            is_sound: _,
+        } = self;
+        drop(line);
+    }
+}
+
+// Each of the functions that give a line as it was read gives what the next one gave: a line is long, and a move of it takes
+// as much as a rule.
+
+/// The line of a side whose message has a heading, without its tree and its reason.
+fn bare_line(
+    alloc: Global,
+    number: u64,
+    side: Side,
+    heading: &Heading<'_>,
+    is_sound: bool,
+) -> Result<LineRead, CheckFault>
+    ensures line { IfOk result (λ read. (given : GatheredReferences) (m : TheMessage) → IsHeadingOf heading.now m → looked_at m.kind ≡ false → AreGivenIn given m.kind → (IsTrue is_sound → fault_in m.kind ≡ None) → IsReadOf number side m given read) }
+    ensures refused { IfErr result (λ fault. fault ≡ CheckFault.OutOfMemory) }
+{
+    let message = bare(alloc, heading)?;
+    Ok(LineRead {
+        line: Line {
+            number,
+            side,
+            message,
+        },
+        form: Form::Bare,
+        is_sound,
+    })
+}
+
+/// The line of a side whose message a body is, with its tree.
+#[inline(never)]
+fn whole_line(
     alloc: Global,
     scratch: &mut Scratch,
-    given: &mut GatheredReferences,
-    bodies: bool,
     number: u64,
-    text: &[u8],
+    side: Side,
+    body: &[u8],
 ) -> Result<LineRead, CheckFault>
-    ensures line { IfOk result (λ read. (real : TheLine) × IsLine number text.now real × IsReadAs read.form given.new read.line real × (IsTrue read.is_sound → fault_in real.message.kind ≡ None)) }
-    ensures refused { IfErr result (Refuses number text.now) }
+    ensures line { IfOk result (λ read. (given : GatheredReferences) → IsReadFrom number side body.now given read) }
+    ensures whole { IfOk result (λ read. read.form ≡ Form.Whole) }
+    ensures refused { IfErr result (IsUnread number body.now) }
 {
-    let Some((side, body)) = split_side(text) else {
-        return Err(CheckFault::BadLine { line: number });
-    };
-    match read_body(alloc, scratch, given, bodies, body) {
-        Ok(read) => Ok(LineRead {
+    match read_message_with(alloc, body, scratch) {
+        Ok(message) => Ok(LineRead {
             line: Line {
                 number,
                 side,
-                message: read.message,
+                message,
             },
-            form: read.form,
-            is_sound: read.is_sound,
+            form: Form::Whole,
+            is_sound: false,
         }),
         Err(BodyFault::Refused(cause)) => Err(CheckFault::Body {
             line: number,
@@ -253,7 +228,87 @@ pub(crate) fn read_bare(
     }
 }
 
-/// The line of this number, with its tree where that is asked for.
+/// The heading of the message that a body is, unless a rule looks at its tree; what it gives is gathered.
+fn short_heading<'a>(
+    scratch: &'a mut Scratch,
+    given: &mut GatheredReferences,
+    body: &'a [u8],
+) -> Option<Heading<'a>>
+    ensures { IfSome result (λ heading. (m : TheMessage) × Msg body.entry.now m × IsHeadingOf heading m × (looked_at m.kind ≡ false) × AreGivenIn given.new m.kind) }
+{
+    let heading = read_heading_and_references(scratch, given, body)?;
+    if is_looked_at(&heading.kind) {
+        return None;
+    }
+    Some(heading)
+}
+
+/// The same without its tree, unless a rule looks at that; what it gives is gathered.
+#[inline(always)]
+fn short_line(
+    alloc: Global,
+    scratch: &mut Scratch,
+    given: &mut GatheredReferences,
+    number: u64,
+    side: Side,
+    body: &[u8],
+) -> Result<LineRead, CheckFault>
+    ensures line { IfOk result (IsReadFrom number side body.now given.new) }
+    ensures refused { IfErr result (IsUnread number body.now) }
+{
+    match short_heading(scratch, given, body) {
+        Some(heading) => bare_line(alloc, number, side, &heading, false),
+        None => whole_line(alloc, scratch, number, side, body),
+    }
+}
+
+/// The same, looked out for faults on the way.
+#[inline(never)]
+fn sound_line(
+    alloc: Global,
+    scratch: &mut Scratch,
+    given: &mut GatheredReferences,
+    number: u64,
+    side: Side,
+    body: &[u8],
+) -> Result<LineRead, CheckFault>
+    ensures line { IfOk result (IsReadFrom number side body.now given.new) }
+    ensures refused { IfErr result (IsUnread number body.now) }
+{
+    let Some((heading, is_sound)) = read_heading_and_shape(scratch, given, body) else {
+        return short_line(alloc, scratch, given, number, side, body);
+    };
+    if is_looked_at(&heading.kind) {
+        return whole_line(alloc, scratch, number, side, body);
+    }
+    bare_line(alloc, number, side, &heading, is_sound)
+}
+
+/// The line of a side whose message a body is, with its tree where that is asked for.
+fn line_of(
+    alloc: Global,
+    scratch: &mut Scratch,
+    given: &mut GatheredReferences,
+    mode: CheckMode,
+    number: u64,
+    side: Side,
+    body: &[u8],
+) -> Result<LineRead, CheckFault>
+    ensures line { IfOk result (IsReadFrom number side body.now given.new) }
+    ensures whole { IfOk result (λ read. mode.whole ≡ true → read.form ≡ Form.Whole) }
+    ensures refused { IfErr result (IsUnread number body.now) }
+{
+    if mode.whole {
+        return whole_line(alloc, scratch, number, side, body);
+    }
+    if mode.bodies {
+        return sound_line(alloc, scratch, given, number, side, body);
+    }
+    short_line(alloc, scratch, given, number, side, body)
+}
+
+/// The line of this number, with its tree where that is asked for, or where a rule looks at it; what it gives is gathered
+/// where it has none.
 pub(crate) fn read_in(
     alloc: Global,
     scratch: &mut Scratch,
@@ -266,12 +321,8 @@ pub(crate) fn read_in(
     ensures whole { IfOk result (λ read. mode.whole ≡ true → read.form ≡ Form.Whole) }
     ensures refused { IfErr result (Refuses number text.now) }
 {
-    if mode.whole {
-        return Ok(LineRead {
-            line: read_line_with(alloc, scratch, number, text)?,
-            form: Form::Whole,
-            is_sound: false,
-        });
+    match split_side(text) {
+        None => Err(CheckFault::BadLine { line: number }),
+        Some((side, body)) => line_of(alloc, scratch, given, mode, number, side, body),
     }
-    read_bare(alloc, scratch, given, mode.bodies, number, text)
 }

@@ -1,7 +1,7 @@
 -- What is found of a line that was read whole, and what that tells of reasons.
 use Rattle.std.proofs.Common.{◌≡◌, ℕ, ◌+◌, ◌≤◌, List, [], ◌∷◌, ◌++◌, true, false, Option, Some, None, Result, Ok, Err, sym, ap, ◌∙◌, subst, arith}
 use Rattle.std.specs.Prelude.{◌||◌, if◌then◌else◌, OnOk, IfErr}
-use Rattle.dap_check.specs.Checking.{is_of_body, IsFound, TakesText}
+use Rattle.dap_check.specs.Checking.{is_of_body, line_in, IsFound, TakesText}
 use Rattle.dap_check.specs.declared.found.CheckMode.{CheckMode}
 use Rattle.dap_check.specs.declared.found.LineFound.{LineFound}
 use Rattle.dap_check.specs.declared.line.Line.{Line}
@@ -13,7 +13,7 @@ use Rattle.dap_explain.specs.declared.reason.Reason.{Reason}
 use Rattle.dap_explain.specs.declared.trail.Trails.{Trails}
 
 -- it is given back
-pub given_whole : (mode : CheckMode) (earlier : List Line) (line : Line) (found : LineFound) → mode.whole ≡ true → IsFound mode earlier line found → found.line ≡ Some line
+pub given_whole : (mode : CheckMode) (earlier : List Line) (line : Line) (found : LineFound) → mode.whole ≡ true → IsFound mode earlier line found → line_in found ≡ Some line
 given_whole mode earlier line found whole is = is.given_back ∙ ap (λ b. if b || is_of_body found.broken then Some line else None) whole
 
 pub below_more : (m n : ℕ) (found : Trails) → m ≤ n → AreBelow m found → AreBelow n found

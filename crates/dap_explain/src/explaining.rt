@@ -349,9 +349,9 @@ impl Notes {
     }
 
     /// The same of a line that may not be given.
-    fn explain_given(&self, rule: Rule, line: &Option<Line>) -> Option<Reason>
+    fn explain_given(&self, rule: Rule, line: &Option<Box<Line>>) -> Option<Reason>
         requires { AreBelow (2 ^ 64 - 1) self.now.trails }
-        ensures { (earlier : List TheLine) (real : TheLine) → line.now ≡ Some real → AreNotes self.now earlier → result ≡ reason_of rule earlier real }
+        ensures { (earlier : List TheLine) (real : TheLine) → option_map (λ boxed. boxed.value) line.now ≡ Some real → AreNotes self.now earlier → result ≡ reason_of rule earlier real }
     {
         match line {
             None => None,
@@ -359,9 +359,9 @@ impl Notes {
         }
     }
 
-    fn explain_broken(&self, broken: &Broken, line: &Option<Line>) -> Option<Reason>
+    fn explain_broken(&self, broken: &Broken, line: &Option<Box<Line>>) -> Option<Reason>
         requires { AreBelow (2 ^ 64 - 1) self.now.trails }
-        ensures { (earlier : List TheLine) (real : TheLine) → line.now ≡ Some real → AreNotes self.now earlier → result ≡ reason_in (Some broken.now) earlier real }
+        ensures { (earlier : List TheLine) (real : TheLine) → option_map (λ boxed. boxed.value) line.now ≡ Some real → AreNotes self.now earlier → result ≡ reason_in (Some broken.now) earlier real }
     {
         match broken {
             Broken::Rule(rule) => self.explain_given(*rule, line),
@@ -370,6 +370,7 @@ impl Notes {
     }
 
     /// Why the next line breaks the one of the seven rules that was found, where it was read whole.
+    #[inline(never)]
     pub(crate) fn explain_found(&self, found: &LineFound) -> Option<Reason>
         requires { AreBelow (2 ^ 64 - 1) self.now.trails }
         ensures { (mode : CheckMode) (earlier : List TheLine) (line : TheLine) → mode.whole ≡ true → IsFound mode earlier line found.now → AreNotes self.now earlier → result ≡ reason_in found.now.broken earlier line }

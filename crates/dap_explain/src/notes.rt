@@ -1,5 +1,5 @@
 //! All that is kept of the lines so far, for the reasons of findings at the next one.
-ghost use Rattle.std.specs.Prelude.{◌≡◌, ◌+◌, ◌-◌, ◌^◌, ◌<◌, ◌∷◌, ◌++◌, [], List, ℕ, OnOk, IfErr, true};
+ghost use Rattle.std.specs.Prelude.{◌≡◌, ◌+◌, ◌-◌, ◌^◌, ◌<◌, ◌∷◌, ◌++◌, [], List, ℕ, Some, OnOk, IfErr, true, option_map};
 ghost use Rattle.dap_explain.specs.KeptNotes.{AreNotes, asked_of};
 ghost use Rattle.dap_explain.specs.KeptTrails.{AreBelow};
 ghost use Rattle.dap_check.specs.Checking.{IsFound};
@@ -61,13 +61,24 @@ impl Notes {
     }
 
     /// Takes note of a line that was read whole.
+    #[inline(never)]
     pub(crate) fn note_found(&mut self, alloc: Global, found: &LineFound) -> Result<(), AllocError>
         requires { AreBelow (2 ^ 64 - 1) self.old.trails }
         ensures notes { OnOk result ((mode : CheckMode) (earlier : List TheLine) (line : TheLine) → mode.whole ≡ true → IsFound mode earlier line found.now → AreNotes self.old earlier → AreNotes self.new (earlier ++ line ∷ [])) }
         ensures below { OnOk result ((n : ℕ) → AreBelow n self.old.trails → AreBelow (n + 1) self.new.trails) }
         ensures same { IfErr result (λ refused. self.new.trails ≡ self.old.trails) }
     {
-        match &found.line {
+        self.note_given(alloc, &found.line)
+    }
+
+    /// The same of a line that may not be given.
+    fn note_given(&mut self, alloc: Global, line: &Option<Box<Line>>) -> Result<(), AllocError>
+        requires { AreBelow (2 ^ 64 - 1) self.old.trails }
+        ensures notes { OnOk result ((earlier : List TheLine) (real : TheLine) → option_map (λ boxed. boxed.value) line.now ≡ Some real → AreNotes self.old earlier → AreNotes self.new (earlier ++ real ∷ [])) }
+        ensures below { OnOk result ((n : ℕ) → AreBelow n self.old.trails → AreBelow (n + 1) self.new.trails) }
+        ensures same { IfErr result (λ refused. self.new.trails ≡ self.old.trails) }
+    {
+        match line {
             None => Ok(()),
             Some(line) => self.note(alloc, line),
         }

@@ -1,6 +1,6 @@
 -- How far the lines of a transcript are listed. Only private clauses and proofs cite this file.
 use Rattle.std.specs.Prelude.{◌≡◌, ℕ, ◌<◌, List, [], ◌∷◌, ◌++◌, length, take, count_by, Bool, true, false, Option, Some, None, if◌then◌else◌}
-use Rattle.dap_check.specs.Checking.{is_of_body}
+use Rattle.dap_check.specs.Checking.{is_of_body, line_in}
 use Rattle.dap_check.specs.Lines.{is_of}
 use Rattle.dap_check.specs.declared.found.Broken.{Broken}
 use Rattle.dap_check.specs.declared.found.Broken.TheVariants.{Rule as OfRule, Body as OfBody}
@@ -28,7 +28,7 @@ mode_of options = record { any_seq = options.any_seq; bodies = options.bodies; w
 
 -- it is given back where it breaks rule 8
 abbrev pub IsGivenFor : Line → LineFound → Type 0
-IsGivenFor line found = is_of_body found.broken ≡ true → found.line ≡ Some line
+IsGivenFor line found = is_of_body found.broken ≡ true → line_in found ≡ Some line
 
 -- what is printed of it
 abbrev pub text_told : Bool → ℕ → Option Reason → Line → Option Broken → List ℕ

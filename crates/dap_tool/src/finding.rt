@@ -1,5 +1,5 @@
 //! What is printed of a line that breaks a rule: the line, the rule, and why where that is asked for.
-ghost use Rattle.std.specs.Prelude.{◌≡◌, ◌++◌, codes, decimal, Some, IfOk, OnOk, string_bytes};
+ghost use Rattle.std.specs.Prelude.{◌≡◌, ◌++◌, codes, decimal, Some, IfOk, OnOk, string_bytes, option_map};
 ghost use Rattle.dap_check.specs.declared.line.Line.{Line as TheLine};
 ghost use Rattle.dap_shape.specs.Seen.{fault_seen};
 ghost use Rattle.dap_shape.specs.Sentences.{sentence_of};
@@ -75,10 +75,10 @@ fn push_sentence(
 fn push_sentence_of(
     alloc: Global,
     text: &mut Vec<u8>,
-    line: &Option<Line>,
+    line: &Option<Box<Line>>,
     fault: &ShapeFault,
 ) -> Result<(), AllocError>
-    ensures { OnOk result ((real : TheLine) → line.now ≡ Some real → text.new.items ≡ text.old.items ++ (sentence_of real.message.kind (fault_seen fault.now) ++ codes "\n")) }
+    ensures { OnOk result ((real : TheLine) → option_map (λ boxed. boxed.value) line.now ≡ Some real → text.new.items ≡ text.old.items ++ (sentence_of real.message.kind (fault_seen fault.now) ++ codes "\n")) }
 {
     match line {
         None => Ok(()),
@@ -105,10 +105,10 @@ fn push_fault(
     text: &mut Vec<u8>,
     explained: bool,
     number: u64,
-    line: &Option<Line>,
+    line: &Option<Box<Line>>,
     fault: &ShapeFault,
 ) -> Result<(), AllocError>
-    ensures { OnOk result ((real : TheLine) → line.now ≡ Some real → text.new.items ≡ text.old.items ++ text_of_fault explained number real.message.kind (fault_seen fault.now)) }
+    ensures { OnOk result ((real : TheLine) → option_map (λ boxed. boxed.value) line.now ≡ Some real → text.new.items ≡ text.old.items ++ text_of_fault explained number real.message.kind (fault_seen fault.now)) }
 {
     push_rule_8(alloc, text, number)?;
     if !explained {
@@ -119,6 +119,7 @@ fn push_fault(
 }
 
 /// Appends what is printed of a line; nothing where it breaks no rule.
+#[inline(never)]
 pub(crate) fn push_told(
     alloc: Global,
     text: &mut Vec<u8>,

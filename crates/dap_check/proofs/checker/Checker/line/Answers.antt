@@ -1,10 +1,7 @@
-use Rattle.std.proofs.Common.{◌≡◌, ◌+◌, ◌<◌, length, refl, ◌∙◌, subst, arith}
+use Rattle.std.proofs.Common.{◌≡◌, ◌<◌, length, refl, arith}
 use Rattle.std.proofs.lemmas.Bool.Decides.{nat_tests}
-use Rattle.dap_check.specs.Checking.{IsFound}
-use Rattle.dap_check.specs.Transcript.{IsLine}
-use Rattle.dap_check.specs.declared.found.CheckMode.{CheckMode}
-use Rattle.dap_check.proofs.BareLemmas.{least_as}
-use Rattle.dap_check.proofs.JudgedLines.{taken_empty, taken_line}
+use Rattle.dap_check.proofs.JudgedLines.{taken_empty, taken_same}
+use Rattle.dap_check.proofs.Outcomes.{if_ok}
 use Rattle.dap_check.proofs.checker.Checker.line.Goals as goal
 
 pub returns-then-is_empty-clause-found : goal.returns-then-is_empty-clause-found
@@ -13,17 +10,7 @@ returns-then-is_empty-clause-found c = λ mode texts lines is.
     (none, taken_empty mode texts lines c.args.self.now _ is refl c.args.text.now refl none refl)
 
 pub returns-in-Ok-clause-found : goal.returns-in-Ok-clause-found
-returns-in-Ok-clause-found c = λ mode texts lines is.
-    let self = c.args.self.now in
-    let read = c.in_ok-read.ensures.line in
-    let real = read.0 in
+returns-in-Ok-clause-found c =
+    let read = c.in-Ok.ensures.line in
     let some : 0 < length c.args.text.now = grind (arith, nat_tests) in
-    let numbered = subst (λ n. IsLine (n + 1) c.args.text.now real) is.count read.1 in
-    let least = c.least_broken-rule.ensures lines is.seen ∙ least_as self.mode.any_seq lines c.in_ok-read.read.form _ c.in_ok-read.read.line real read.2 in
-    let judged = c.in_ok-judged.ensures.judged self.mode lines _ real refl read.1 read.2 read.3 c.in_ok-read.ensures.whole least in
-    let found = c.found.ensures self.mode lines _ real refl judged in
-    let seen = c.in-Ok.ensures.seen lines real judged.read is.seen in
-    let P : CheckMode → Type 0 = λ m. IsFound m lines real c.found.result in (
-      some,
-      (real, numbered, subst P is.asked found, taken_line mode texts lines self _ is refl c.args.text.now refl real some read.1 seen),
-    )
+    if_ok c.take_read.result _ _ c.take_read.ensures.found (λ found are mode texts lines is. are mode texts lines read.0 (taken_same mode texts lines c.args.self.now _ is refl refl refl) some read.1 read.2 read.3 c.in-Ok.ensures.whole)
