@@ -201,6 +201,3 @@ drops_all longest was held now dropped none no_line long is = record {
     longer : (was : Bool) → (was ≡ false → longest + 1 < length held) → IsDropped longest was dropped → longest + 1 < length (dropped ++ held)
     longer true long is = omega (arith, length-append dropped held, is.1)
     longer false long is = omega (arith, length-append dropped held, long refl)
-
-pub drops_none : (longest : ℕ) (held now dropped : List ℕ) → now ≡ held → IsDropped longest false dropped → Drops longest false dropped held now
-drops_none longest held now dropped same is = record { dropped = dropped; is = is; same = ap (λ (z : List ℕ). dropped ++ z) same }

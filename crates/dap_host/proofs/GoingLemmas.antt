@@ -114,18 +114,6 @@ pub stopped_telling : (h k : HostState) (c : Coming) (bytes before after : List 
     → ((outs : List Message) → bytes ≡ bytes_of outs → after ≡ before ++ message_lines outs) → StopsTelling h c before after k fault
 stopped_telling h k c bytes before after fault stops hands = record { bytes = bytes; stops = stops; lines = hands stops.outs stops.appended }
 
--- what is not dropped comes in a run
-pub in_a_run : (phase : Phase) (t : Told) → drop_of phase t ≡ None → has_debuggee phase ≡ true
-in_a_run Fresh t e = absurd (cc e)
-in_a_run Ready t e = absurd (cc e)
-in_a_run Configured t e = absurd (cc e)
-in_a_run Parked t e = absurd (cc e)
-in_a_run Asked t e = absurd (cc e)
-in_a_run Running t e = refl
-in_a_run Stopped t e = refl
-in_a_run Exited t e = absurd (cc e)
-in_a_run Ended t e = absurd (cc e)
-
 -- ---- the same of a host that is taken apart
 
 pub answered_at : (o h k : HostState) (body bytes before after : List ℕ) (acts : List HostAct) → o ≡ h → IsGoing h → AreInRange o.limits → Laws → TakesMessage h body → AnswersFed o.adapter body bytes acts k.adapter

@@ -21,9 +21,3 @@ pub keeps_going : (dropped : Option Dropped) (all : Option (List RecordedSource)
 keeps_going None (Some all) h k is going = subst IsGoing (sym is) (going_with h all going)
 keeps_going None None h k is going = subst IsGoing (sym is) going
 keeps_going (Some why) all h k is going = subst IsGoing (sym is) going
-
--- what is held until then is what is kept
-pub all_kept : (dropped : Option Dropped) (all : Option (List RecordedSource)) (c : Coming) (h k : HostState) (sources : List RecordedSource) → h.sources ≡ sources → AreAll c sources all → k ≡ keeps_all dropped all h → k ≡ kept dropped c h
-all_kept None (Some all) c h k sources same are is = is ∙ ap (λ (xs : List RecordedSource). record h { sources = xs }) (are ∙ ap (sources_after c) (sym same))
-all_kept None None c h k sources same are is = is ∙ ap (λ (xs : List RecordedSource). record h { sources = xs }) (same ∙ sym are ∙ ap (sources_after c) (sym same))
-all_kept (Some why) all c h k sources same are is = is

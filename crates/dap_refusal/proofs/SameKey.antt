@@ -115,9 +115,6 @@ passes_same : {A : Type 0} (test other : A → Bool) (o : Option A) → ((x : A)
 passes_same test other None same = refl
 passes_same test other (Some x) same = ap (λ b. if b then Some x else None) (same x)
 
-ids_of : List RecordedThread → List ℤ
-ids_of threads = map (λ thread. thread.id) threads
-
 some_mapped : (o : Option ℕ) → is_some (option_map (λ n. suc n) o) ≡ is_some o
 some_mapped None = refl
 some_mapped (Some n) = refl

@@ -60,11 +60,6 @@ as-cancel r s e = rw e refl
 pub as-other : (r : Entry) (s : Session) → of_known is_cancel (command_of r) ≡ false → after_taking r s ≡ after_keeping r s
 as-other r s e = rw e refl
 
--- what a call answered, said otherwise
-pub ok-both : {T E : Type 0} (r : Result T E) (P Q : T → Type 0) (W : Type 0) → ((x : T) → P x → W → Q x) → IfOk r P → OnOk r W → IfOk r Q
-ok-both (Ok x) P Q W f h w = f x h w
-ok-both (Err e) P Q W f h w = tt
-
 pub each-ok : {T E : Type 0} (r : Result T E) (P Q : T → Type 0) → ((x : T) → P x → Q x) → IfOk r P → IfOk r Q
 each-ok (Ok x) P Q f h = f x h
 each-ok (Err e) P Q f h = tt

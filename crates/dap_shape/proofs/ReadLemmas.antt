@@ -80,9 +80,3 @@ body_more d found old new before given same1 same2 are here is = record {
 pub no_row_held : (row : Option Row) (d : Data) → None ≡ row → held_fault row (Some d) ≡ None
 no_row_held None d is = refl
 no_row_held (Some row) d is = absurd (cc is)
-
-pub sound_held : (row : Option Row) (this : Row) (d : Data) → Some this ≡ row → fault_of this.shape d ≡ None → held_fault row (Some d) ≡ None
-sound_held None this d is sound = absurd (cc is)
-sound_held (Some row) this d is sound =
-    let same : this ≡ row = cc is in
-    subst (λ r. held_fault (Some r) (Some d) ≡ None) same (ap (option_map (inside (at_key this.key))) sound)

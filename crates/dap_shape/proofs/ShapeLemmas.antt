@@ -28,20 +28,6 @@ use Rattle.dap_shape.specs.declared.shape.Shape.{Shape}
 use Rattle.dap_shape.specs.declared.shape.Shape.TheVariants.{One, Each}
 use Rattle.dap_shape.specs.declared.shape.Field.{Field}
 
--- ---- of two faults the first
-
-pub or_else-some : (x rest : Option Fault) → is_some x ≡ true → or_else x rest ≡ x
-or_else-some None rest some = absurd (cc some)
-or_else-some (Some fault) rest some = refl
-
-pub or_else-none : (x rest : Option Fault) → is_some x ≡ false → or_else x rest ≡ rest
-or_else-none None rest none = refl
-or_else-none (Some fault) rest none = absurd (cc none)
-
-pub is_some-option_map : {A B : Type 0} (f : A → B) (o : Option A) → is_some (option_map f o) ≡ is_some o
-is_some-option_map f None = refl
-is_some-option_map f (Some x) = refl
-
 -- ---- what stands at a key
 
 null_or : (shape : Shape) (d : Data) (b : Bool) → cond b None (Some (fault_of shape d)) ≡ option_map (fault_of shape) (cond (not b) (Some d) None)
@@ -74,81 +60,6 @@ fault_of-object name (number n) is = absurd (cc is)
 fault_of-object name (string s) is = absurd (cc is)
 fault_of-object name (array ds) is = absurd (cc is)
 fault_of-object name (object ms) is = rows_fault-same (found_in (object ms)) (λ key shape. member_fault key shape ms) (fields_of name) (λ key shape. sym (member_fault-get key shape ms))
-
-pub fault_of-no_object : (name : TypeName) (d : Data) → is_some (as_object d) ≡ false → Some (misfit (One (Object name))) ≡ fault_of (One (Object name)) d
-fault_of-no_object name null is = refl
-fault_of-no_object name (boolean b) is = refl
-fault_of-no_object name (number n) is = refl
-fault_of-no_object name (string s) is = refl
-fault_of-no_object name (array ds) is = refl
-fault_of-no_object name (object ms) is = absurd (cc is)
-
-pub fault_of-no_list : (kind : Kind) (d : Data) → None ≡ as_array d → Some (misfit (Each kind)) ≡ fault_of (Each kind) d
-fault_of-no_list kind null is = refl
-fault_of-no_list kind (boolean b) is = refl
-fault_of-no_list kind (number n) is = refl
-fault_of-no_list kind (string s) is = refl
-fault_of-no_list kind (array ds) is = absurd (cc is)
-fault_of-no_list kind (object ms) is = refl
-
-pub fault_of-list : (kind : Kind) (d : Data) (ds : Items) → Some ds ≡ as_array d → items_fault 0 kind ds ≡ fault_of (Each kind) d
-fault_of-list kind null ds is = absurd (cc is)
-fault_of-list kind (boolean b) ds is = absurd (cc is)
-fault_of-list kind (number n) ds is = absurd (cc is)
-fault_of-list kind (string s) ds is = absurd (cc is)
-fault_of-list kind (array es) ds is = let e : ds ≡ es = cc is in ap (items_fault 0 kind) e
-fault_of-list kind (object ms) ds is = absurd (cc is)
-
-pub fault_of-plain : (scalar : Scalar) (d : Data) → bare_fault (One (Plain scalar)) d ≡ fault_of (One (Plain scalar)) d
-fault_of-plain scalar null = refl
-fault_of-plain scalar (boolean b) = refl
-fault_of-plain scalar (number n) = refl
-fault_of-plain scalar (string s) = refl
-fault_of-plain scalar (array ds) = refl
-fault_of-plain scalar (object ms) = refl
-
--- ---- one row, and one element
-
-module _ (found : List ℕ → Shape → Option (Option Fault)) (fields : List Field) (i : ℕ) (d : Field) (below : i < length fields) where
-  abbrev this : Field
-  this = get_or fields i d
-
-  cut : drop i fields ≡ this ∷ drop (i + 1) fields
-  cut = rw (add-one, drop-cons fields i d)
-
-  rows_here : rows_fault found (map row_seen (drop i fields)) ≡ or_else (row_fault (row_seen this) (found (row_seen this).key (row_seen this).shape)) (rows_fault found (map row_seen (drop (i + 1) fields)))
-  rows_here = ap (λ z. rows_fault found (map row_seen z)) cut
-
-  module _ (o : Option Fault) (is : o ≡ row_fault (row_seen this) (found (row_seen this).key (row_seen this).shape)) where
-    pub row_passed : is_some o ≡ false → rows_fault found (map row_seen (drop (i + 1) fields)) ≡ rows_fault found (map row_seen (drop i fields))
-    row_passed none = sym (rows_here ∙ ap (λ x. or_else x (rows_fault found (map row_seen (drop (i + 1) fields)))) (sym is) ∙ or_else-none o (rows_fault found (map row_seen (drop (i + 1) fields))) none)
-
-    pub row_failed : is_some o ≡ true → o ≡ rows_fault found (map row_seen (drop i fields))
-    row_failed some = sym (rows_here ∙ ap (λ x. or_else x (rows_fault found (map row_seen (drop (i + 1) fields)))) (sym is) ∙ or_else-some o (rows_fault found (map row_seen (drop (i + 1) fields))) some)
-
-module _ (kind : Kind) (values : List Value) (i : ℕ) (d : Value) (below : i < length values) where
-  abbrev value : Value
-  value = get_or values i d
-
-  cut_values : drop i values ≡ value ∷ drop (i + 1) values
-  cut_values = rw (add-one, drop-cons values i d)
-
-  items_here : items_fault i kind (items_view (drop i values)) ≡ or_else (option_map (inside (at_place i)) (fault_of (One kind) (view value))) (items_fault (i + 1) kind (items_view (drop (i + 1) values)))
-  items_here = ap (λ z. items_fault i kind (items_view z)) cut_values
-
-  module _ (o : Option Fault) (is : o ≡ fault_of (One kind) (view value)) where
-    abbrev outer : Option Fault
-    outer = option_map (inside (at_place i)) o
-
-    pub item_passed : is_some o ≡ false → items_fault (i + 1) kind (items_view (drop (i + 1) values)) ≡ items_fault i kind (items_view (drop i values))
-    item_passed none =
-        sym (items_here ∙ ap (λ x. or_else (option_map (inside (at_place i)) x) (items_fault (i + 1) kind (items_view (drop (i + 1) values)))) (sym is)
-        ∙ or_else-none outer (items_fault (i + 1) kind (items_view (drop (i + 1) values))) (is_some-option_map (inside (at_place i)) o ∙ none))
-
-    pub item_failed : is_some o ≡ true → outer ≡ items_fault i kind (items_view (drop i values))
-    item_failed some =
-        sym (items_here ∙ ap (λ x. or_else (option_map (inside (at_place i)) x) (items_fault (i + 1) kind (items_view (drop (i + 1) values)))) (sym is)
-        ∙ or_else-some outer (items_fault (i + 1) kind (items_view (drop (i + 1) values))) (is_some-option_map (inside (at_place i)) o ∙ some))
 
 -- ---- what is inside nests less deep
 
@@ -188,14 +99,6 @@ weight (Some d) = 6 * depth d + 6
 pub weight-tree_at : (key : List ℕ) (d : Data) (o : Option Data) → o ≡ tree_at key d → weight o < 6 * depth d + 2
 weight-tree_at key d None is = omega arith
 weight-tree_at key d (Some e) is = let less = get_depth key d e (unless_null-some (get key d) e (sym is)) in omega arith
-
-pub as_array-depth : (d : Data) (ds : Items) → Some ds ≡ as_array d → depth d ≡ suc (items_depth ds)
-as_array-depth null ds is = absurd (cc is)
-as_array-depth (boolean b) ds is = absurd (cc is)
-as_array-depth (number n) ds is = absurd (cc is)
-as_array-depth (string s) ds is = absurd (cc is)
-as_array-depth (array es) ds is = let e : ds ≡ es = cc is in ap (λ z. suc (items_depth z)) (sym e)
-as_array-depth (object ms) ds is = absurd (cc is)
 
 pub item_depth : (values : List Value) (i : ℕ) (d : Value) → i < length values → depth (view (get_or values i d)) ≤ items_depth (items_view values)
 item_depth [] i d below = absurd (omega arith)

@@ -21,25 +21,6 @@ use Rattle.dap_shape.specs.declared.shape.Shape.TheVariants.{One}
 
 -- ---- null
 
-abbrev pub is_null_passed : MemberValue → Bool
-is_null_passed passed.Null = true
-is_null_passed (passed.Boolean b) = false
-is_null_passed (passed.Whole n) = false
-is_null_passed (passed.Text text) = false
-is_null_passed passed.Other = false
-
-pub null_passed : (value : MemberValue) (d : Data) → Describes value d → is_null_passed value ≡ is_null d
-null_passed passed.Null d is = ap is_null (sym is)
-null_passed (passed.Boolean b) d is = ap is_null (sym is)
-null_passed (passed.Whole n) d is = ap is_null (sym is)
-null_passed (passed.Text text) d is = ap is_null (sym is)
-null_passed passed.Other null is = absurd is
-null_passed passed.Other (boolean b) is = absurd is
-null_passed passed.Other (number n) is = refl
-null_passed passed.Other (string s) is = absurd is
-null_passed passed.Other (array ds) is = refl
-null_passed passed.Other (object ms) is = refl
-
 -- ---- keys
 
 key_apart : (key name : List ℕ) → bytes_eq key name ≡ false → key ≢ name

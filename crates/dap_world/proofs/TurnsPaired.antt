@@ -125,9 +125,6 @@ turn-asks w by used h k o l n =
 
 -- ---- what was announced
 
-read-announces : (a : Option Data) (r : Read Call) (c : Call) → r ≡ Ok c → announces r ≡ announces (Ok c)
-read-announces a r c e = ap announces e
-
 announced-by : (p : Phase) (asked : Call) (s : Session) (wanted : Bool) (arguments : Option Data) → call_of (command_in asked) arguments ≡ Ok asked → wanted ≡ wanted_by (Some (command_in asked)) arguments
     → terminal_after_command (adapter_model_phase p) (class_of (command_in asked)) wanted s.options.supports_run_in_terminal_request ≡ (options_by p asked s).supports_run_in_terminal_request
 announced-by adapter.Fresh (call.Initialize a) s wanted arguments r w = w ∙ ap announces r
