@@ -10,7 +10,7 @@ use dap_body::{
 };
 use dap_command::{Capabilities, Key};
 use dap_envelope::{BodyFault, Message, read_message, write_message};
-use dap_json::Text;
+use dap_json::{More, Text};
 use dap_message::append_answer;
 use serde_json::Value;
 use std::alloc::{AllocError, Global};
@@ -82,6 +82,7 @@ fn source(alloc: Global) -> Result<Source, AllocError> {
             name,
             path: Some(path),
             source_reference: Some(1),
+            more: More::none(),
         }),
         Err(fault) => Err(fault),
     }
@@ -98,7 +99,17 @@ fn breakpoints_body(alloc: Global) -> Result<Value, AllocError> {
 
 fn threads_body(alloc: Global) -> Result<Value, AllocError> {
     let name = Text::copied(alloc, "main")?;
-    body_threads(alloc, one(alloc, Thread { id: 1, name })?)
+    body_threads(
+        alloc,
+        one(
+            alloc,
+            Thread {
+                id: 1,
+                name,
+                more: More::none(),
+            },
+        )?,
+    )
 }
 
 fn frame(alloc: Global, name: Text) -> Result<StackFrame, AllocError> {
@@ -109,6 +120,7 @@ fn frame(alloc: Global, name: Text) -> Result<StackFrame, AllocError> {
             source: Some(source),
             line: 3,
             column: 1,
+            more: More::none(),
         }),
         Err(fault) => Err(fault),
     }
@@ -123,6 +135,7 @@ fn scopes_body(alloc: Global) -> Result<Value, AllocError> {
     let scope = Scope {
         name: Text::copied(alloc, "Locals")?,
         variables_reference: 2,
+        more: More::none(),
     };
     body_scopes(alloc, one(alloc, scope)?)
 }
@@ -133,6 +146,7 @@ fn variables_body(alloc: Global) -> Result<Value, AllocError> {
         name,
         value,
         variables_reference: 0,
+        more: More::text(alloc, "type", "int")?,
     };
     body_variables(alloc, one(alloc, variable)?)
 }
@@ -189,7 +203,7 @@ static BODIES: [&[u8]; 15] = [
     br#"{"threads":[{"id":1,"name":"main"}]}"#,
     br#"{"stackFrames":[{"column":1,"id":1,"line":3,"name":"f","source":{"name":"a.c","path":"/a.c","sourceReference":1}}],"totalFrames":5}"#,
     br#"{"scopes":[{"expensive":false,"name":"Locals","variablesReference":2}]}"#,
-    br#"{"variables":[{"name":"x","value":"1","variablesReference":0}]}"#,
+    br#"{"variables":[{"name":"x","type":"int","value":"1","variablesReference":0}]}"#,
     br#"{"result":"P","variablesReference":3}"#,
     br#"{"content":"one\n"}"#,
     br#"{"sources":[{"name":"a.c","path":"/a.c","sourceReference":1}]}"#,

@@ -4,7 +4,7 @@ use crate::checks::check;
 use crate::lists::{breakpoints, frames, scopes, threads, variables};
 use dap_body::Body;
 use dap_command::Capabilities;
-use dap_json::Text;
+use dap_json::{More, Text};
 use dap_message::{append_answer, append_request};
 use std::alloc::{AllocError, Global};
 
@@ -52,10 +52,12 @@ fn body(alloc: Global, place: usize) -> Result<Option<Body>, AllocError> {
         7 => Body::Evaluate {
             result: Text::copied(alloc, "1")?,
             variables_reference: 6,
+            more: More::none(),
         },
         8 => Body::Continue,
         9 => Body::SetVariable {
             value: Text::copied(alloc, "9")?,
+            more: More::none(),
         },
         10 => Body::Initialize { capabilities: ALL },
         11 => Body::Initialize {

@@ -20,6 +20,8 @@ mod lists;
 #[cfg(test)]
 mod messages;
 #[cfg(test)]
+mod more;
+#[cfg(test)]
 mod parts;
 #[cfg(test)]
 mod readers;

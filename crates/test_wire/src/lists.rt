@@ -1,7 +1,7 @@
 //! The lists that bodies have, made of rows.
 
 use dap_body::{Breakpoint, Scope, Source, StackFrame, Thread, Variable};
-use dap_json::Text;
+use dap_json::{More, Text};
 use std::alloc::{AllocError, Global};
 
 /// The name, path and reference of a source, 0 where it has none.
@@ -32,7 +32,11 @@ pub(crate) fn threads(
     let mut threads = Vec::new(alloc);
     for (id, name) in rows {
         let name = Text::copied(alloc, name)?;
-        threads.push(Thread { id: *id, name })?;
+        threads.push(Thread {
+            id: *id,
+            name,
+            more: More::none(),
+        })?;
     }
     Ok(threads)
 }
@@ -46,6 +50,7 @@ pub(crate) fn scopes(
         scopes.push(Scope {
             name: Text::copied(alloc, name)?,
             variables_reference: *variables_reference,
+            more: More::none(),
         })?;
     }
     Ok(scopes)
@@ -67,6 +72,7 @@ pub(crate) fn variables(
             name,
             value,
             variables_reference: *variables_reference,
+            more: More::none(),
         })?;
     }
     Ok(variables)
@@ -83,6 +89,7 @@ fn source(alloc: Global, row: SourceRow) -> Result<Source, AllocError> {
         name: Text::copied(alloc, name)?,
         path,
         source_reference,
+        more: More::none(),
     })
 }
 
@@ -106,6 +113,7 @@ fn frame(alloc: Global, row: FrameRow) -> Result<StackFrame, AllocError> {
         source,
         line,
         column,
+        more: More::none(),
     })
 }
 
