@@ -51,7 +51,7 @@ variables-so : (q : QueryState) (variables : List Variable) (answer : QueryAnswe
 variables-so q variables answer e = numbered q (variable_objects variables) (λ numbers. variables_body (with_numbers protocol_variable numbers variables)) answer e
 
 value-so : (q : QueryState) (value : Evaluation) (answer : QueryAnswer) → evaluate_result q value ≡ Ok answer → is_some answer.body ≡ true
-value-so q value answer e = numbered q (value_objects value) (λ numbers. evaluate_body value.value (number_in numbers)) answer e
+value-so q value answer e = numbered q (value_objects value) (λ numbers. evaluate_body value.value (number_in numbers) value.more) answer e
 
 text-so : (q : QueryState) (text : List ℕ) (answer : QueryAnswer) → result_without_references q (Some (source_body text)) ≡ Ok answer → is_some answer.body ≡ true
 text-so q text answer e = bare q (Some (source_body text)) answer e

@@ -39,7 +39,7 @@ unfolding canon tree_of response_members escape_byte digits
 all_threads_go_on = refl
 
 -- the value that was set has any length, so that no fixed size holds it
-a_value_was_set : canon (success_response 16 15 (codes "setVariable") (Some (set_variable_body (codes "9")))) ≡ codes "{\"body\":{\"value\":\"9\"},\"command\":\"setVariable\",\"request_seq\":15,\"seq\":16,\"success\":true,\"type\":\"response\"}"
+a_value_was_set : canon (success_response 16 15 (codes "setVariable") (Some (set_variable_body (codes "9") []))) ≡ codes "{\"body\":{\"value\":\"9\"},\"command\":\"setVariable\",\"request_seq\":15,\"seq\":16,\"success\":true,\"type\":\"response\"}"
 unfolding canon tree_of response_members escape_byte digits
 a_value_was_set = refl
 

@@ -42,7 +42,7 @@ fn room_for(body: &Body) -> usize {
         Body::Variables { variables } => (variables.len(), 96),
         Body::LoadedSources { sources } => (sources.len(), 128),
         Body::Source { content } => (content.len(), 1),
-        Body::SetVariable { value } => (value.len(), 1),
+        Body::SetVariable { value, .. } => (value.len(), 1),
         Body::Evaluate { result, .. } => (result.len(), 1),
     };
     count

@@ -211,7 +211,7 @@ pub lines-told : (s : Session) (key : SourceKey) (lines : List ℕ) (o : Option 
 lines-told s key lines o verified answers is few told = (lines_change s key lines verified, rw (is, few) refl, ap (λ (xs : List BreakpointBody). Some (set_breakpoints_body xs)) (sym told))
 
 pub value-told : (view : Shown) (s : Session) (asked : SetVariable) (o : Option ℕ) (holder : ℕ) (name text : List ℕ) (a : Assigned) → o ≡ Some holder → name ≡ asked.name → text ≡ asked.value → view.assigned holder name text ≡ Some a
-    → (c : Change) × (value_result view s asked o ≡ Ok c) × (c.body ≡ Some (set_variable_body a.value))
+    → (c : Change) × (value_result view s asked o ≡ Ok c) × (c.body ≡ Some (set_variable_body a.value a.more))
 value-told view s asked o holder name text a is n t told =
     let here : view.assigned holder asked.name asked.value ≡ Some a = rw (← n, ← t) told in
     (value_change s asked holder a, rw (is, here) refl, refl)

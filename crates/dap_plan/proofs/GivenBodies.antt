@@ -4,6 +4,8 @@ use Rattle.std.specs.Prelude.{if◌then◌else◌}
 use Rattle.dap_command.specs.Capabilities.{capabilities_data}
 use Rattle.dap_body.specs.ResponseBody.{continue_body, set_breakpoints_body, set_variable_body}
 use Rattle.dap_body.specs.declared.response.Breakpoint.{Breakpoint}
+use Rattle.dap_body.proofs.GivenNumbers.{bodies_give_their_numbers}
+use Rattle.dap_json.specs.declared.more.Member.{Member}
 use Rattle.dap_command.specs.declared.command.Command.{Command}
 use Rattle.dap_body.specs.declared.failure.Failure.TheVariants.{TooManyBreakpoints}
 use Rattle.dap_call.specs.declared.call.SetVariable.{SetVariable}
@@ -34,8 +36,10 @@ bare-resume h = (refl, λ r. resume-none h (command_of r))
 breakpoints-none : (o : Option Command) (answers : List Breakpoint) → references_given_in o (Some (set_breakpoints_body answers)) ≡ []
 breakpoints-none o answers = none-in o (set_breakpoints_body answers) refl refl refl refl
 
-value-none : (o : Option Command) (value : List ℕ) → references_given_in o (Some (set_variable_body value)) ≡ []
-value-none o value = none-in o (set_variable_body value) refl refl refl refl
+value-none : (o : Option Command) (value : List ℕ) (more : List Member) → references_given_in o (Some (set_variable_body value more)) ≡ []
+value-none o value more =
+    let alone = bodies_give_their_numbers.set_variable_alone value more in
+    none-in o (set_variable_body value more) alone.0 alone.1 alone.2 (bodies_give_their_numbers.set_variable value more)
 
 -- ---- what is changed
 
@@ -53,7 +57,7 @@ assigned-bare : (s : Session) (asked : SetVariable) (holder : ℕ) (o : Option A
 assigned-bare s asked holder None c e = absurd (cc e)
 assigned-bare s asked holder (Some a) c e =
     let same : value_change s asked holder a ≡ c = cc in
-    subst (λ (x : Change). IsBare (success x.body [])) same (refl, λ r. value-none (command_of r) a.value)
+    subst (λ (x : Change). IsBare (success x.body [])) same (refl, λ r. value-none (command_of r) a.value a.more)
 
 pub value-bare : (view : Shown) (s : Session) (asked : SetVariable) (o : Option ℕ) (c : Change) → value_result view s asked o ≡ Ok c → IsBare (success c.body [])
 value-bare view s asked None c e = absurd (cc e)

@@ -248,7 +248,7 @@ lines_result s key lines (Some verified) = if are_too_many s.limits key lines s.
 
 abbrev pub value_change : Session → SetVariable → ℕ → Assigned → Change
 value_change s asked holder assigned = record {
-  body = Some (set_variable_body assigned.value);
+  body = Some (set_variable_body assigned.value assigned.more);
   act = to_assign holder asked.name asked.value;
   breakpoints = s.breakpoints;
 }

@@ -19,7 +19,7 @@ use crate::session::Session;
 use dap_body::{Body, Breakpoint, Failure};
 use dap_call::{Call, SetVariable};
 use dap_command::SourceKey;
-use dap_debuggee::Debuggee;
+use dap_debuggee::{Assigned, Debuggee};
 use dap_outbox::{Answer, Outbox};
 use dap_plan::AdapterFault;
 use dap_query::NoAnswer;
@@ -99,9 +99,8 @@ impl<D: Debuggee + Drop> Session<D> {
         };
         let (name, text) = (wanted.name.as_str(), wanted.value.as_str());
         let assigned = self.debuggee.assigned(alloc, holder, name, text)?;
-        Ok(Body::SetVariable {
-            value: assigned.value,
-        })
+        let Assigned { value, more } = assigned;
+        Ok(Body::SetVariable { value, more })
     }
 
     fn change_body(&self, alloc: Global, call: &Call, asked: &[u32]) -> Result<Body, NoAnswer>
