@@ -9,7 +9,7 @@ use Rattle.dap_json.specs.Field.{if_passes, max_seq}
 use Rattle.dap_json.specs.Put.{whole_number}
 use Rattle.dap_command.specs.GivenReferences.{reference_at, references_in}
 use Rattle.dap_body.specs.ResponseBody.{stack_frame_fields, stack_frame, scope_fields, scope, variable_fields, variable, evaluate_fields, evaluate_body, set_variable_fields}
-use Rattle.dap_body.proofs.Standing.{own}
+use Rattle.dap_body.proofs.FitMembers.{own}
 use Rattle.dap_body.specs.Row.{object_of}
 use Rattle.dap_body.specs.GivenNumbers.{references_among, BodiesGiveTheirNumbers}
 

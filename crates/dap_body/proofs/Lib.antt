@@ -2,7 +2,7 @@ pub mod Examples
 pub mod Tokens
 pub mod Rows
 pub mod Among
-pub mod Standing
+pub mod FitMembers
 mod OfParts
 pub mod PlainBodies
 pub mod GivenNumbers

@@ -23,7 +23,7 @@ use Rattle.dap_json.specs.Sound.{IsSound}
 use Rattle.dap_json.specs.Writable.{max_nesting, is_writable}
 use Rattle.dap_json.specs.More.{members_of as more_members, object_with, are_in_order, are_more, more_nesting}
 use Rattle.dap_json.specs.declared.more.Member.{Member}
-use Rattle.dap_body.specs.Beside.{fields_of, among, standing, beside}
+use Rattle.dap_body.specs.Beside.{fields_of, among, fit_members, beside}
 use Rattle.dap_body.proofs.Among.{placed, among-step, among-none}
 use Rattle.dap_body.specs.Body.{data_of, event_data}
 use Rattle.dap_body.specs.declared.event.EventBody.{EventBody}
@@ -163,19 +163,19 @@ plain_among n (f ∷ row) (m ∷ ms) own h =
     (placed_plain n f row m ms (slice_cmp nat_cmp m.key f.0) own (p.0, first) (plain_among n (f ∷ row) ms own (p.1, rest)) (plain_among n row (m ∷ ms) (split n f.1 (HasPlain n row) own).1 h))
 
 -- what stands beside nests no deeper than 99
-standing_by : (b : Bool) (ms : List Member) → are_more ms ≡ b → MembersPlain 99 (more_members (if b then ms else []))
-standing_by true ms e =
+fit_by : (b : Bool) (ms : List Member) → are_more ms ≡ b → MembersPlain 99 (more_members (if b then ms else []))
+fit_by true ms e =
     let p = and_parts (are_in_order ms) (is_writable more_nesting (object_with ms)) e in
     let q = and_parts (not (members_have_float (more_members ms))) (nat_le (suc (members_depth (more_members ms))) 100) p.1 in
     let deep : suc (members_depth (more_members ms)) ≤ 100 = leb-true (suc (members_depth (more_members ms))) 100 q.1 in
     (no (members_have_float (more_members ms)) q.0, omega (arith, deep))
-standing_by false ms e = (refl, omega arith)
+fit_by false ms e = (refl, omega arith)
 
 deeper : (n : ℕ) (ms : Members) → 99 ≤ n → MembersPlain 99 ms → MembersPlain n ms
 deeper n ms le h = let deep = h.1 in (h.0, omega (arith, deep))
 
 beside_plain : (n : ℕ) (row : Row) (more : List Member) → 99 ≤ n → HasPlain n row → HasPlain n (beside row more)
-beside_plain n row more le own = plain_among n row (standing more) own (deeper n (more_members (standing more)) le (standing_by (are_more more) more refl))
+beside_plain n row more le own = plain_among n row (fit_members more) own (deeper n (more_members (fit_members more)) le (fit_by (are_more more) more refl))
 
 up : (n : ℕ) (d : Data) → n ≤ 119 → PlainTo n d → PlainTo 119 d
 up n d le h = let deep = h.1 in (h.0, omega (arith, deep))

@@ -9,7 +9,7 @@ use Rattle.dap_command.specs.Numbers.{is_int, int_of}
 use Rattle.serde_json.specs.Find.{get}
 use Rattle.dap_json.specs.declared.more.Member.{Member}
 use Rattle.dap_body.specs.BesideLaws.{is_own}
-use Rattle.dap_body.proofs.Standing.{own}
+use Rattle.dap_body.proofs.FitMembers.{own}
 use Rattle.dap_body.specs.ResponseBody.{thread_fields, thread, source_fields, source, stack_frame_fields, stack_frame, scope_fields, scope, variable_fields, variable, breakpoint, evaluate_fields, set_variable_fields, threads_body, stack_trace_body, scopes_body, variables_body, set_breakpoints_body, loaded_sources_body, evaluate_body}
 use Rattle.dap_body.specs.Row.{Row, object_of}
 use Rattle.dap_body.specs.declared.body.Body.TheVariants as body

@@ -28,9 +28,9 @@ abbrev pub among : Row → List Member → Row
 among [] ms = fields_of ms
 among (field ∷ row) ms = fields_of (before_key field.0 ms) ++ field ∷ among row (after_key field.0 ms)
 
--- members that cannot stand beside others are none
-abbrev pub standing : List Member → List Member
-standing ms = if are_more ms then ms else []
+-- those that can stand beside others: all of them or none
+abbrev pub fit_members : List Member → List Member
+fit_members ms = if are_more ms then ms else []
 
 abbrev pub beside : Row → List Member → Row
-beside row ms = among row (standing ms)
+beside row ms = among row (fit_members ms)

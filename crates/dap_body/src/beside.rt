@@ -2,7 +2,7 @@
 ghost use Rattle.std.specs.Prelude.{◌≡◌, ◌∷◌, [], IfOk, OnOk};
 ghost use Rattle.dap_json.specs.More.{object_with};
 ghost use Rattle.dap_json.specs.Sound.{IsSound};
-ghost use Rattle.dap_body.specs.Beside.{field_of, standing};
+ghost use Rattle.dap_body.specs.Beside.{field_of, fit_members};
 ghost use Rattle.dap_body.specs.PrivateText.{wrote, wrote_among, HasNoFloats, PutsBefore};
 
 use dap_json::written::write_value;
@@ -13,12 +13,12 @@ use std::cmp::Ordering;
 
 /// The members, to be written from the first on.
 #[inline(always)]
-pub(crate) fn standing(more: &More) -> &[Member]
-    ensures members { result.now ≡ standing more.now }
+pub(crate) fn fit_members(more: &More) -> &[Member]
+    ensures members { result.now ≡ fit_members more.now }
     ensures plain { HasNoFloats result.now }
     ensures sound { IsSound (object_with result.now) }
 {
-    more.is_more();
+    more.more_is_fit();
     more.as_slice()
 }
 

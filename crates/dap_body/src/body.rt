@@ -10,7 +10,7 @@ ghost use Rattle.dap_body.specs.PrivateText.{is_of_parts, wrote_row, IsSoundFiel
 ghost use Rattle.dap_body.specs.Row.{whole_if_any};
 ghost use Rattle.dap_body.specs.ResponseBody.{evaluate_row, set_variable_row};
 
-use crate::beside::{put_before, put_left, standing};
+use crate::beside::{fit_members, put_before, put_left};
 use crate::response::{Breakpoint, Scope, Source, StackFrame, Thread, Variable};
 use crate::row::{
     Fields, append_object, put_flag, put_list, put_number, put_short, put_short_if_any, put_text,
@@ -92,7 +92,7 @@ fn write_value_set(out: &mut Writer, value: &Text, more: &More) -> Result<(), Al
     ensures before { out.new.before ≡ out.old.before }
     ensures sound { OnOk result (IsSoundRow (set_variable_row value.now more.now)) }
 {
-    let left = put_none(out, "scopes", standing(more))?;
+    let left = put_none(out, "scopes", fit_members(more))?;
     let left = put_none(out, "stackFrames", left)?;
     let left = put_before(out, "value", left)?;
     put_text(out, "value", value)?;
@@ -111,7 +111,7 @@ fn write_evaluation(
     ensures before { out.new.before ≡ out.old.before }
     ensures sound { OnOk result (IsSoundRow (evaluate_row text.now variables_reference more.now)) }
 {
-    let left = put_before(out, "result", standing(more))?;
+    let left = put_before(out, "result", fit_members(more))?;
     put_text(out, "result", text)?;
     let left = put_none(out, "scopes", left)?;
     let left = put_none(out, "stackFrames", left)?;

@@ -1,6 +1,6 @@
 //! Laws of the definitions, each on a function with nothing to run.
 ghost use Rattle.dap_body.specs.GivenNumbers.{BodiesGiveTheirNumbers};
-ghost use Rattle.dap_body.specs.BesideLaws.{MoreIsBeside};
+ghost use Rattle.dap_body.specs.BesideLaws.{MoreIsBeside, OwnFieldsAreInOrder};
 ghost use Rattle.dap_body.specs.PlainBodies.{EventBodiesArePlain, FailureBodiesArePlain, ResponseBodiesArePlain};
 ghost use Rattle.dap_body.specs.ReadAgain.{WhatIsWrittenIsReadAgain};
 
@@ -19,12 +19,14 @@ pub fn bodies_give_their_numbers()
 {}
 
 /// Of each body that is written here and read by [`view`](crate::view), with its numbers in range: what is read is what was
-/// written, every element in its place, and every member of it.
+/// written, every element in its place, and every member of its own.
 pub fn what_is_written_is_read_again()
     ensures { WhatIsWrittenIsReadAgain }
 {}
 
 /// Members that stand beside a row's own fields leave each of these as it was, also one that is absent, and each is there.
+/// With none, a body is as the profile has it.
 pub fn more_is_beside()
-    ensures { MoreIsBeside }
+    ensures beside { MoreIsBeside }
+    ensures own { OwnFieldsAreInOrder }
 {}

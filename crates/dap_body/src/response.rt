@@ -6,7 +6,7 @@ ghost use Rattle.std.specs.Prelude.{◌≡◌, [], IfOk};
 ghost use Rattle.serde_json.specs.View.{view};
 ghost use Rattle.dap_body.specs.ResponseBody.{set_breakpoints_body, threads_body, continue_body, stack_trace_body, scopes_body, variables_body, set_variable_body, evaluate_body, source_body, loaded_sources_body, run_in_terminal_body};
 
-use crate::beside::{put_before, put_left, standing};
+use crate::beside::{fit_members, put_before, put_left};
 use crate::body::Body;
 use crate::row::{
     Fields, put_flag, put_number, put_object_if_any, put_short, put_short_if_any, put_signed,
@@ -53,7 +53,7 @@ impl Fields for Thread {
     ghost written = { thread };
 
     fn write(&self, out: &mut Writer) -> Result<(), AllocError> {
-        let left = put_before(out, "id", standing(&self.more))?;
+        let left = put_before(out, "id", fit_members(&self.more))?;
         put_signed(out, "id", self.id)?;
         let left = put_before(out, "name", left)?;
         put_text(out, "name", &self.name)?;
@@ -79,7 +79,7 @@ impl Fields for Source {
     ghost written = { source };
 
     fn write(&self, out: &mut Writer) -> Result<(), AllocError> {
-        let left = put_before(out, "name", standing(&self.more))?;
+        let left = put_before(out, "name", fit_members(&self.more))?;
         put_text(out, "name", &self.name)?;
         let left = put_before(out, "path", left)?;
         put_text_if_any(out, "path", &self.path)?;
@@ -109,7 +109,7 @@ impl Fields for StackFrame {
     ghost written = { stack_frame };
 
     fn write(&self, out: &mut Writer) -> Result<(), AllocError> {
-        let left = put_before(out, "column", standing(&self.more))?;
+        let left = put_before(out, "column", fit_members(&self.more))?;
         put_short(out, "column", self.column)?;
         let left = put_before(out, "id", left)?;
         put_short(out, "id", self.id)?;
@@ -139,7 +139,7 @@ impl Fields for Scope {
     ghost written = { scope };
 
     fn write(&self, out: &mut Writer) -> Result<(), AllocError> {
-        let left = put_before(out, "expensive", standing(&self.more))?;
+        let left = put_before(out, "expensive", fit_members(&self.more))?;
         put_flag(out, "expensive", false)?;
         let left = put_before(out, "name", left)?;
         put_text(out, "name", &self.name)?;
@@ -166,7 +166,7 @@ impl Fields for Variable {
     ghost written = { variable };
 
     fn write(&self, out: &mut Writer) -> Result<(), AllocError> {
-        let left = put_before(out, "name", standing(&self.more))?;
+        let left = put_before(out, "name", fit_members(&self.more))?;
         put_text(out, "name", &self.name)?;
         let left = put_before(out, "value", left)?;
         put_text(out, "value", &self.value)?;

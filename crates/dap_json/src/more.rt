@@ -120,7 +120,7 @@ impl More {
 
     /// What holds of them. There is nothing to run.
     #[inline(always)]
-    pub fn is_more(&self)
+    pub fn more_is_fit(&self)
         ensures { IsMore self.now }
     {
         let _ = &self.held;
