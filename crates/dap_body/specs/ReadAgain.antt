@@ -1,4 +1,4 @@
--- What dap_body writes of a response is read again as it was: each element, in order, with all that was written of it.
+-- What dap_body writes of a response is read again as it was: each element, in order, with each of its own members.
 -- Which numbers are written so is this profile's choice: those in the ranges in which they are read.
 use Rattle.std.specs.Prelude.{◌≡◌, ℕ, map, ◌&&◌, Bool, true, false, nat_le, Option, Some, None, option_map, unwrap_or, Ok}
 use Rattle.std.specs.List.{list_all}

@@ -198,7 +198,7 @@ pub record KeepsActs (old new : HeldAdapter) : Type 0 where
 
 -- a variable, as a caller in C says it
 abbrev pub variable_told : List ℕ → List ℕ → Bool → ℕ → Variable
-variable_told name value has_parts holder = record { name = name; value = value; holder = if has_parts then Some holder else None }
+variable_told name value has_parts holder = record { name = name; value = value; holder = if has_parts then Some holder else None; more = [] }
 
 -- what the host has still to fetch, in the order in which it was asked
 abbrev pub acts_due : HeldAdapter → List HostAct

@@ -19,7 +19,7 @@ use crate::held_adapter::HeldAdapter;
 use dap_c_parts::codes::*;
 use dap_c_parts::found::YtFound;
 use dap_debuggee::{Category, Variable};
-use dap_json::{List, Text};
+use dap_json::{List, More, Text};
 use dap_live::{Coming, Dropped, Mail};
 use dap_recording::{Recording, RecordingFault, Snapshot, Sources, Texts};
 use dap_slot::{handle_of, take_out};
@@ -356,7 +356,7 @@ fn variable_given(
     value: &[u8],
     holder: Option<u64>,
 ) -> Result<Variable, u32>
-    ensures variable { IfOk result (λ variable. variable ≡ record { name = name.now; value = value.now; holder = holder }) }
+    ensures variable { IfOk result (λ variable. variable ≡ record { name = name.now; value = value.now; holder = holder; more = [] }) }
     ensures wanted { IsUtf8 name.now → IsUtf8 value.now → IfErr result (λ code. code ≡ YT_NO_MEMORY) }
     ensures code { IfErr result IsCodeOfText }
 {
@@ -366,6 +366,7 @@ fn variable_given(
         name,
         value,
         holder,
+        more: More::none(),
     })
 }
 

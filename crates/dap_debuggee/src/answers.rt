@@ -3,8 +3,8 @@
 //! Specification, "Thread", "StackFrame", "Scope", "Variable", "Source", and the events "output", "stopped", "continued"
 //! and "exited". An object number is the debuggee's own name of a frame, or of a holder: what holds variables.
 //!
-//! Whatever else the protocol lets a debugger say of one of these can stand beside it (`more`), as a variable's `type`. None of a
-//! body's own members is replaced by that, also not one that is absent: `dap_body::laws::more_is_beside`.
+//! Whatever else the protocol lets a debugger say of one of these can stand beside it (`more`), such as a variable's `type`.
+//! None of a body's own members is replaced by that, also not one that is absent: `dap_body::laws::more_is_beside`.
 ghost use Rattle.std.specs.Prelude.{◌≡◌};
 
 use dap_json::{More, Text};

@@ -242,6 +242,7 @@ fn answer(alloc: Global, place: usize) -> Result<Option<Body>, AllocError> {
     match place {
         0 => Ok(Some(Body::SetVariable {
             value: Text::copied(alloc, "9")?,
+            more: More::none(),
         })),
         1 => Ok(Some(Body::Continue)),
         2 => Ok(Some(Body::Initialize { capabilities: ALL })),
