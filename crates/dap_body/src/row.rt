@@ -27,6 +27,8 @@ pub(crate) trait Fields: Drop {
 
 // ---- fields
 
+// (Put where a field is written, its key is a constant there, and nothing of it has to be escaped.)
+
 #[inline(always)]
 #[tactic(auto, unfolding(crate::specs::PrivateText::wrote))]
 pub(crate) fn put_number(out: &mut Writer, key: &str, n: u64) -> Result<(), AllocError>
@@ -38,6 +40,7 @@ pub(crate) fn put_number(out: &mut Writer, key: &str, n: u64) -> Result<(), Allo
     out.u64(n)
 }
 
+#[inline(always)]
 pub(crate) fn put_short(out: &mut Writer, key: &str, n: u32) -> Result<(), AllocError>
     ensures adds { OnOk result (out.new.tokens ≡ wrote (key.now, whole n) out.old.tokens) }
     ensures before { out.new.before ≡ out.old.before }
@@ -46,6 +49,7 @@ pub(crate) fn put_short(out: &mut Writer, key: &str, n: u32) -> Result<(), Alloc
     put_number(out, key, n.into())
 }
 
+#[inline(always)]
 #[tactic(auto, unfolding(crate::specs::PrivateText::wrote))]
 pub(crate) fn put_signed(out: &mut Writer, key: &str, n: i64) -> Result<(), AllocError>
     ensures adds { OnOk result (out.new.tokens ≡ wrote (key.now, integer n) out.old.tokens) }
@@ -56,6 +60,7 @@ pub(crate) fn put_signed(out: &mut Writer, key: &str, n: i64) -> Result<(), Allo
     out.i64(n)
 }
 
+#[inline(always)]
 #[tactic(auto, unfolding(crate::specs::PrivateText::wrote))]
 pub(crate) fn put_str(out: &mut Writer, key: &str, value: &str) -> Result<(), AllocError>
     ensures adds { OnOk result (out.new.tokens ≡ wrote (key.now, text value.now) out.old.tokens) }
@@ -66,6 +71,7 @@ pub(crate) fn put_str(out: &mut Writer, key: &str, value: &str) -> Result<(), Al
     out.string(value)
 }
 
+#[inline(always)]
 pub(crate) fn put_text(out: &mut Writer, key: &str, value: &Text) -> Result<(), AllocError>
     ensures adds { OnOk result (out.new.tokens ≡ wrote (key.now, text value.now) out.old.tokens) }
     ensures before { out.new.before ≡ out.old.before }
@@ -74,6 +80,7 @@ pub(crate) fn put_text(out: &mut Writer, key: &str, value: &Text) -> Result<(), 
     put_str(out, key, value.as_str())
 }
 
+#[inline(always)]
 #[tactic(auto, unfolding(crate::specs::PrivateText::wrote))]
 pub(crate) fn put_flag(out: &mut Writer, key: &str, on: bool) -> Result<(), AllocError>
     ensures adds { OnOk result (out.new.tokens ≡ wrote (key.now, flag on) out.old.tokens) }

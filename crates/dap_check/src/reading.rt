@@ -158,7 +158,8 @@ impl LineRead {
     }
 }
 
-// By hand, so that whoever drops one makes a call: each place that takes a message apart takes room for its parts.
+// By hand, so that whoever drops one makes a call: else each of these places takes the message apart, with room for its parts
+// that is cleared for each line.
 impl Drop for LineRead {
     #[inline(always)]
     fn drop(self) {

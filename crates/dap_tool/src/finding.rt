@@ -45,6 +45,7 @@ fn push_why(alloc: Global, text: &mut Vec<u8>, reason: Option<Reason>) -> Result
 }
 
 /// Of a line that breaks one of the seven rules.
+#[inline(never)]
 fn push_finding(
     alloc: Global,
     text: &mut Vec<u8>,
@@ -100,6 +101,7 @@ fn push_rule_8(alloc: Global, text: &mut Vec<u8>, line: u64) -> Result<(), Alloc
 }
 
 /// Of a line that breaks rule 8, which is given.
+#[inline(never)]
 fn push_fault(
     alloc: Global,
     text: &mut Vec<u8>,
@@ -119,7 +121,6 @@ fn push_fault(
 }
 
 /// Appends what is printed of a line; nothing where it breaks no rule.
-#[inline(never)]
 pub(crate) fn push_told(
     alloc: Global,
     text: &mut Vec<u8>,
