@@ -155,7 +155,8 @@ impl Host {
             Ok(sources) => sources,
             Err(fault) => return Err(fault),
         };
-        let live = Live::open(alloc, sources.clone()?);
+        let shared = sources.clone()?;
+        let live = Live::open(alloc, shared);
         let adapter = Adapter::open(alloc, limits, live)?;
         Ok(Host {
             adapter,
