@@ -52,11 +52,3 @@ pub record IsRefusedIn (texts : List (List ℕ)) (fault : CheckFault) : Type 0 w
   pub split : texts ≡ before ++ text ∷ after
   pub has_bytes : 0 < length text
   pub refuses : Refuses (length before + 1) text fault
-
--- the text of this number, counted from 1, which has bytes
-pub record IsTextAt (texts : List (List ℕ)) (number : ℕ) (text : List ℕ) : Type 0 where
-  pub before : List (List ℕ)
-  pub after : List (List ℕ)
-  pub split : texts ≡ before ++ text ∷ after
-  pub has_bytes : 0 < length text
-  pub count : length before + 1 ≡ number

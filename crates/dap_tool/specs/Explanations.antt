@@ -23,6 +23,9 @@ use Rattle.dap_tool.specs.declared.files.OpenFault.TheVariants.{NotFound, IsDire
 
 -- ---- faults of files
 
+abbrev pub cannot_be_read : List ℕ
+cannot_be_read = codes "cannot be read"
+
 abbrev pub words_of_open : OpenFault → List ℕ
 words_of_open NotFound = codes "no such file"
 words_of_open IsDirectory = codes "is a directory"
@@ -30,7 +33,7 @@ words_of_open PermissionDenied = codes "permission denied"
 words_of_open NotOpened = codes "cannot be opened"
 
 abbrev pub words_of_file : FileFault → List ℕ
-words_of_file file.Read = codes "cannot be read"
+words_of_file file.Read = cannot_be_read
 words_of_file file.FileTooLong = codes "longer than 67108864 bytes"
 words_of_file file.OutOfMemory = no_memory
 
@@ -47,7 +50,7 @@ words_of_adapter adapter.SeqExhausted = codes "no sequence number is left for wh
 words_of_adapter adapter.OutOfMemory = no_memory
 
 abbrev pub words_of_serve : ServeFault → List ℕ
-words_of_serve serve.Read = codes "cannot be read"
+words_of_serve serve.Read = cannot_be_read
 words_of_serve (serve.Write written) = joined_text (codes "cannot be written, after " ∷ decimal written ∷ codes " bytes" ∷ [])
 words_of_serve (serve.Adapter fault) = words_of_adapter fault
 words_of_serve serve.TooManyReads = codes "more than 1000000000 reads"

@@ -16,6 +16,8 @@ use dap_reason::{
 use dap_stream::push_shown;
 use std::alloc::{AllocError, Global};
 
+const CANNOT_BE_READ: &str = "cannot be read";
+
 // ---- faults of files
 
 fn open_words(fault: OpenFault) -> &'static str
@@ -33,9 +35,9 @@ fn file_words(fault: FileFault) -> &'static str
     ensures { result.now ≡ words_of_file fault }
 {
     match fault {
-        FileFault::Read => "cannot be read",
+        FileFault::Read => CANNOT_BE_READ,
         FileFault::FileTooLong => "longer than 67108864 bytes",
-        FileFault::OutOfMemory => "memory was refused",
+        FileFault::OutOfMemory => NO_MEMORY,
     }
 }
 
@@ -116,7 +118,7 @@ fn push_serve(out: &mut Vec<u8>, fault: &ServeFault) -> Result<(), AllocError>
     ensures { OnOk result (out.new.items ≡ out.old.items ++ words_of_serve fault.now) }
 {
     match fault {
-        ServeFault::Read => push(out, &[Part::Words("cannot be read")]),
+        ServeFault::Read => push(out, &[Part::Words(CANNOT_BE_READ)]),
         ServeFault::Write { written } => push_unwritten(out, *written),
         ServeFault::Adapter(fault) => push_adapter(out, fault),
         ServeFault::TooManyReads => push(out, &[Part::Words("more than 1000000000 reads")]),
@@ -138,7 +140,7 @@ fn send_words(fault: SendFault) -> &'static str
         SendFault::TooLarge => "the body is longer than its limit",
         SendFault::Full => "no more requests may wait",
         SendFault::SeqExhausted => "no sequence number is left",
-        SendFault::OutOfMemory => "memory was refused",
+        SendFault::OutOfMemory => NO_MEMORY,
     }
 }
 
