@@ -15,7 +15,6 @@ use Rattle.dap_command.specs.declared.gathering.GatheredReferences.{GatheredRefe
 use Rattle.dap_command.specs.declared.capabilities.Capabilities.{Capabilities}
 use Rattle.dap_command.specs.declared.command.Command.{Command}
 use Rattle.dap_command.specs.declared.command.Command.TheVariants as command
-use Rattle.dap_envelope.specs.declared.message.Message.{Message}
 use Rattle.dap_envelope.specs.declared.message.Kind.{Kind}
 use Rattle.dap_envelope.specs.declared.message.Kind.TheVariants.{Request, Response, Event, Other}
 use Rattle.dap_check.specs.PrivateBare.{is_looked_at, bare_kind, bare_line, IsReadAs, gathered_frames_for, gathered_frames, gathered_holders_for, gathered_holders, gathers_frame, gathers_holder}

@@ -1,5 +1,5 @@
 -- A line as it was read from a body.
-use Rattle.std.proofs.Common.{◌≡◌, ℕ, List, Option, Some, Result, Ok, Err, drop, refl, sym, subst}
+use Rattle.std.proofs.Common.{◌≡◌, ℕ, List, Some, Result, Ok, Err, drop, sym, subst}
 use Rattle.std.specs.Prelude.{IfErr}
 use Rattle.dap_envelope.specs.Refusals.{Bad}
 use Rattle.dap_check.specs.PrivateBare.{IsUnread}

@@ -1,6 +1,5 @@
 use Rattle.std.proofs.Common.{◌≡◌, ◌+◌, ◌<◌, length, ap, sym, ◌∙◌, arith}
 use Rattle.std.proofs.lemmas.Bool.Decides.{nat_tests}
-use Rattle.dap_explain.specs.Explained.{noted_by}
 use Rattle.dap_explain.proofs.Explained.{past_so, empty_so, no_text_so, reason_so}
 use Rattle.dap_explain.proofs.walking.Walk.explain.Goals as goal
 use Rattle.dap_explain.proofs.walking.Walk.explain.Goals.{then-taken-number-via-then-taken-number, then-taken-number-via-else-taken-number+then-is_empty}
