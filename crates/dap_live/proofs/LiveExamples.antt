@@ -57,7 +57,7 @@ none = Some (record { text = codes "y"; value = None; holder = Some 7 })
 texts : (value_told sum (codes "x + 1") ≡ Some (codes "2")) × (value_told sum (codes "x") ≡ None) × (value_told None (codes "x") ≡ None) × (value_told none (codes "y") ≡ None) × (told_of none (codes "x") ≡ None)
 texts = (refl, refl, refl, refl, refl)
 
-values : (evaluated (told_of sum (codes "x + 1")) None ≡ Some (record { value = codes "2"; holder = None; more = [] })) × (evaluated (told_of sum (codes "x")) (Some (record { value = codes "1"; holder = Some 3; more = [] })) ≡ Some (record { value = codes "1"; holder = Some 3; more = [] })) × (evaluated (told_of none (codes "y")) (Some (record { value = codes "1"; holder = None; more = [] })) ≡ None) × (evaluated (told_of pair (codes "p")) None ≡ Some (record { value = codes "{..}"; holder = Some 7 }))
+values : (evaluated (told_of sum (codes "x + 1")) None ≡ Some (record { value = codes "2"; holder = None; more = [] })) × (evaluated (told_of sum (codes "x")) (Some (record { value = codes "1"; holder = Some 3; more = [] })) ≡ Some (record { value = codes "1"; holder = Some 3; more = [] })) × (evaluated (told_of none (codes "y")) (Some (record { value = codes "1"; holder = None; more = [] })) ≡ None) × (evaluated (told_of pair (codes "p")) None ≡ Some (record { value = codes "{..}"; holder = Some 7; more = [] }))
 values = (refl, refl, refl, refl)
 
 nothing_shown : (threads_in (now_shown NotStarted None) ≡ []) × (threads_in (now_shown Running None) ≡ []) × (children_in (now_shown Stopped None) 0 ≡ None) × (assigned_by (Some (codes "2")) (codes "x") None ≡ None)
