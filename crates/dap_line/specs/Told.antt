@@ -9,13 +9,14 @@ use Rattle.dap_debuggee.specs.declared.answers.Happening.{Happening}
 use Rattle.dap_debuggee.specs.declared.answers.Happening.TheVariants as happening
 use Rattle.dap_debuggee.specs.declared.answers.Variable.{Variable}
 use Rattle.dap_json.specs.Field.{tree_at}
+use Rattle.dap_json.specs.More.{more_of}
 use Rattle.dap_json.specs.Property.{or_bad, required, in_shape, in_shape_or}
 use Rattle.dap_json.specs.Read.{json_of}
 use Rattle.dap_json.specs.Steps.{◌>>=◌, Returns}
 use Rattle.dap_recording.specs.Reading.{exit_of}
 use Rattle.dap_line.specs.Written.{host_key_name}
 use Rattle.dap_line.specs.declared.refusal.HostKey.{HostKey}
-use Rattle.dap_line.specs.declared.refusal.HostKey.TheVariants.{Happened, Category, Output, Reason, Thread, Moment, Code, Text, Value, Later, Holder, Variables, Name, Asked, Number, Sources}
+use Rattle.dap_line.specs.declared.refusal.HostKey.TheVariants.{Happened, Category, Output, Reason, Thread, Moment, Code, Text, Value, Later, Holder, Variables, Name, Asked, Number, Sources, More}
 use Rattle.dap_line.specs.declared.refusal.Refusal.{Refusal}
 use Rattle.dap_line.specs.declared.refusal.Refusal.TheVariants.{NotJson, BadKey}
 use Rattle.dap_line.specs.declared.told.Kind.{Kind}
@@ -82,7 +83,8 @@ variable_of d = do
   name ← required_at as_str Name d
   value ← required_at as_str Value d
   holder ← optional_at number_of Holder d
-  Ok (record { name = name; value = value; holder = holder; more = [] })
+  said ← optional_or more_of [] More d
+  Ok (record { name = name; value = value; holder = holder; more = said })
 
 -- each one behind those before it
 abbrev pub each_variable : Items → List Variable → Read (List Variable)

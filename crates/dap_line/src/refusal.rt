@@ -27,6 +27,7 @@ pub enum HostKey {
     Asked,
     Number,
     Sources,
+    More,
 }
 
 impl HostKey {
@@ -53,6 +54,7 @@ impl HostKey {
             HostKey::Asked => "asked",
             HostKey::Number => "number",
             HostKey::Sources => "sources",
+            HostKey::More => "more",
         }
     }
 }

@@ -3,6 +3,7 @@ ghost use Rattle.std.specs.Prelude.{◌≡◌, [], IfOk};
 ghost use Rattle.serde_json.specs.Find.{as_str, as_array};
 ghost use Rattle.serde_json.specs.View.{view, items_view};
 ghost use Rattle.dap_json.specs.Lent.{lent_data};
+ghost use Rattle.dap_json.specs.More.{more_of};
 ghost use Rattle.dap_json.specs.Numbers.{number_of};
 ghost use Rattle.dap_line.specs.Told.{Gives, GivesList, Tells, value_at, required_at, optional_at, optional_or, category_of, category_named as category_of_name, variable_of, each_variable, variables_of as variables_of_items, variables_in as variables_told, learned_by as learned_of_key, loaded_in as loaded_of};
 ghost use Rattle.dap_line.specs.Told.{output_in as output_of, stop_in as stop_of, continued_in as continued_of, exit_in as exit_of, learned_in as learned_of, kind_named as kind_of_name, kind_of, told_in as told_of, happening_of, question_named as question_of_name, question_of, asked_in as asked_of, happened_in as happened_of, said_in as said_of};
@@ -145,6 +146,19 @@ fn value_in(alloc: Global, told: &Value) -> Result<Option<Text>, Unread>
     }
 }
 
+/// What stands beside a variable.
+fn more_in(alloc: Global, told: &Value) -> Result<More, Unread>
+    ensures { Gives result (optional_or more_of [] HostKey.More (view told.now)) }
+{
+    let Some(found) = at(told, HostKey::More).found else {
+        return Ok(More::none());
+    };
+    match More::of(alloc, found)? {
+        Some(more) => Ok(more),
+        None => Err(HostKey::More.into()),
+    }
+}
+
 /// The number of a holder, where there is one.
 fn holder_in(told: &Value) -> Result<Option<u64>, HostKey>
     ensures { result ≡ optional_at number_of HostKey.Holder (view told.now) }
@@ -162,11 +176,12 @@ fn variable_in(alloc: Global, value: &Value) -> Result<Variable, Unread>
     let name = text_at(alloc, value, HostKey::Name)?;
     let text = text_at(alloc, value, HostKey::Value)?;
     let holder = holder_in(value)?;
+    let more = more_in(alloc, value)?;
     Ok(Variable {
         name,
         value: text,
         holder,
-        more: More::none(),
+        more,
     })
 }
 

@@ -8,7 +8,7 @@ use Rattle.dap_refusal.specs.Refusals.{refusal_of}
 use Rattle.dap_recording.specs.declared.reading.RecordingFault.{RecordingFault}
 use Rattle.dap_recording.specs.declared.reading.RecordingFault.TheVariants as recording
 use Rattle.dap_refusal.specs.declared.refusal.BadCause.{BadCause}
-use Rattle.dap_refusal.specs.declared.refusal.BadCause.TheVariants.{Absent, OtherKind, NoElements, TooMany, TooLong, OutOfRange, NoSource, PastLines, DuplicateId, NoThread}
+use Rattle.dap_refusal.specs.declared.refusal.BadCause.TheVariants.{Absent, OtherKind, NoElements, TooMany, TooLong, OutOfRange, NotPlain, NoSource, PastLines, DuplicateId, NoThread}
 use Rattle.dap_refusal.specs.declared.refusal.BadPlace.{BadPlace}
 use Rattle.dap_refusal.specs.declared.refusal.Element.{Element}
 use Rattle.dap_refusal.specs.declared.refusal.JsonKind.{JsonKind}
@@ -39,6 +39,7 @@ words_of_cause NoElements = codes "an empty array"
 words_of_cause (TooMany count) = joined_text (decimal count ∷ codes " elements, more than 65536" ∷ [])
 words_of_cause (TooLong bytes most) = joined_text (codes "a text of " ∷ decimal bytes ∷ codes " bytes, not at most " ∷ decimal most ∷ [])
 words_of_cause (OutOfRange number least greatest) = joined_text (words_of_number number ∷ codes " from " ∷ signed_decimal least ∷ codes " to " ∷ signed_decimal greatest ∷ [])
+words_of_cause NotPlain = codes "an object with a float, or nested more than 100 deep"
 words_of_cause (NoSource source count) = joined_text (decimal source ∷ codes " is not below " ∷ decimal count ∷ codes ", the number of sources" ∷ [])
 words_of_cause (PastLines line lines) = decimal line ++ codes " is past the text's " ++ words_of_lines lines
 words_of_cause (DuplicateId id) = joined_text (signed_decimal id ∷ codes " is the id of an earlier thread" ∷ [])

@@ -10,6 +10,7 @@ use Rattle.std.specs.Ordering.{nat_cmp, match_ordering}
 use Rattle.std.specs.Cmp.Lexicographic.{slice_cmp}
 use Rattle.serde_json.specs.Data.{Data, array, object, Items, no_items, item, Members, no_members, member}
 use Rattle.serde_json.specs.Find.{as_str, as_bool, as_array}
+use Rattle.dap_json.specs.More.{more_of}
 use Rattle.dap_recording.specs.Reading.{Read, required_at, optional_or, element, value_at, some_items, frame_source, frame_line, untold_of, stop_of, none_numbered, new_id, thread_place, Holders, holder_of, with_holder, variable_of, variables_of, each_variable, variables_within, read_variables, Numbered, each, scope_of, scopes_of, frame_of, thread_of, moment_of}
 use Rattle.dap_recording.specs.Recording.{holders_of_scopes, holders_of_variables}
 use Rattle.dap_recording.specs.RecordingKey.{name_of}
@@ -120,8 +121,9 @@ mutual
       with_ok (required_at as_str key.Name (object ms)) _ r e (λ name named e1.
       with_ok (required_at as_str key.Value (object ms)) _ r e1 (λ value valued e2.
       with_ok (variables_within ms holders) _ r e2 (λ inner is e3.
-      subst (λ (x : Variable × Holders). NumbersOne n x.0.holder holders x.1) (ok_same (record { name = name; value = value; holder = holder_of inner.0 inner.1; more = [] }, with_holder inner.0 inner.1) r e3)
-      (numbered_if_some n inner.0 holders inner.1 (within_numbers n ms holders inner is)))))
+      with_ok (optional_or more_of [] key.More (object ms)) _ r e3 (λ said told e4.
+      subst (λ (x : Variable × Holders). NumbersOne n x.0.holder holders x.1) (ok_same (record { name = name; value = value; holder = holder_of inner.0 inner.1; more = said }, with_holder inner.0 inner.1) r e4)
+      (numbered_if_some n inner.0 holders inner.1 (within_numbers n ms holders inner is))))))
   variable_numbers n d holders r e = absurd (cc e)
 
   variables_numbers : (n : ℕ) (d : Data) (holders : Holders) (r : List Variable × Holders) → variables_of d holders ≡ Ok r → Numbers n [] holders r
@@ -155,8 +157,9 @@ unfolding scope_of
 scope_numbers n d holders r e =
     with_ok (required_at as_str key.Name d) _ r (then_ok (element key.Scopes d) _ r e) (λ name named e1.
     with_ok (read_variables (value_at key.Variables d) holders) _ r e1 (λ inner is e2.
-    subst (λ (x : Scope × Holders). NumbersOne n (Some x.0.holder) holders x.1) (ok_same (record { name = name; holder = length inner.1; more = [] }, inner.1 ++ inner.0 ∷ []) r e2)
-    (numbered n inner.0 holders inner.1 (listed_numbers n (value_at key.Variables d) holders inner is))))
+    with_ok (optional_or more_of [] key.More d) _ r e2 (λ said told e3.
+    subst (λ (x : Scope × Holders). NumbersOne n (Some x.0.holder) holders x.1) (ok_same (record { name = name; holder = length inner.1; more = said }, inner.1 ++ inner.0 ∷ []) r e3)
+    (numbered n inner.0 holders inner.1 (listed_numbers n (value_at key.Variables d) holders inner is)))))
 
 scope_added : (n : ℕ) (before : Holders) (found : List Scope) (holders : Holders) (d : Data) (next : Scope × Holders) → scope_of d holders ≡ Ok next → NumbersScopes n before (found, holders) → NumbersScopes n before (found ++ next.0 ∷ [], next.1)
 scope_added n before found holders d next e p = omega (arith, p, scope_numbers n d holders next e, scopes_more n found next.0)
@@ -180,9 +183,10 @@ frame_numbers n by sources d s r e p =
     with_ok (frame_line sources source d) _ r e2 (λ line lined e3.
     with_ok (optional_or as_array no_items key.Scopes d) _ r e3 (λ given listed e4.
     with_ok (scopes_of given s.variables) _ r e4 (λ scopes scoped e5.
-    let frame : Frame = record { object = length s.scopes; name = name; source = source; line = line; more = [] } in
+    with_ok (optional_or more_of [] key.More d) _ r e5 (λ said told e6.
+    let frame : Frame = record { object = length s.scopes; name = name; source = source; line = line; more = said } in
     let after : Numbered = record { scopes = s.scopes ++ scopes.0 ∷ []; variables = scopes.1; untold = s.untold ++ untold_of given scopes.0 } in
-    subst (λ (x : Frame × Numbered). NumbersAll n x.1) (ok_same (frame, after) r e5) (omega (arith, p, scopes_numbers n given s.variables scopes scoped, frames_more n s.scopes scopes.0)))))))
+    subst (λ (x : Frame × Numbered). NumbersAll n x.1) (ok_same (frame, after) r e6) (omega (arith, p, scopes_numbers n given s.variables scopes scoped, frames_more n s.scopes scopes.0))))))))
 
 thread_numbers : (n : ℕ) (by : Teller) (sources : List RecordedSource) (earlier : List RecordedThread) (d : Data) (s : Numbered) (r : RecordedThread × Numbered) → thread_of by sources earlier d s ≡ Ok r → NumbersAll n s → NumbersAll n r.1
 unfolding thread_of

@@ -13,6 +13,7 @@ use Rattle.dap_json.specs.Field.{if_passes, is_object}
 use Rattle.dap_json.specs.Steps.{◌>>=◌}
 use Rattle.dap_command.specs.Numbers.{is_int, int_of, number_of}
 use Rattle.dap_debuggee.specs.Laws.{is_place, is_frame}
+use Rattle.dap_json.specs.More.{more_of}
 use Rattle.dap_recording.specs.Reading.{Read, Gives, or_fault, verdict_of, or_bad, required_at, optional_at, optional_or, element, value_at, some_items, few_items, few_in, exit_of, line_of, source_place, lines_at, short_text, in_shape, frame_source, frame_line, untold_of, stop_with, stop_of, none_numbered, place_of, new_id, thread_place, Numbered, each, each_source, scopes_of, frame_of, thread_of, moment_of, moments_of, source_of, sources_at, recording_of, numbered_alone}
 use Rattle.dap_recording.specs.AloneLaw.{RecordingsAreFiles}
 use Rattle.dap_recording.specs.Snapshot.{IsAlone}
@@ -179,11 +180,12 @@ frame_holds by sources before found s d next e p =
     with_ok (frame_line sources source d) _ next e2 (λ line lined e3.
     with_ok (optional_or as_array no_items key.Scopes d) _ next e3 (λ given listed e4.
     with_ok (scopes_of given s.variables) _ next e4 (λ scopes scoped e5.
-    let frame : Frame = record { object = length s.scopes; name = name; source = source; line = line; more = [] } in
+    with_ok (optional_or more_of [] key.More d) _ next e5 (λ said told e6.
+    let frame : Frame = record { object = length s.scopes; name = name; source = source; line = line; more = said } in
     let after : Numbered = record { scopes = s.scopes ++ scopes.0 ∷ []; variables = scopes.1; untold = s.untold ++ untold_of given scopes.0 } in
     let more = length-append s.scopes (scopes.0 ∷ []) in
-    subst (λ n. FramesHold (length sources) before (found ++ n.0 ∷ [], n.1)) (ok_same (frame, after) next e5)
-    (frame_added (length sources) before found s after frame refl (omega (arith, more)) (place_fits by sources d source line placed lined) p))))))
+    subst (λ n. FramesHold (length sources) before (found ++ n.0 ∷ [], n.1)) (ok_same (frame, after) next e6)
+    (frame_added (length sources) before found s after frame refl (omega (arith, more)) (place_fits by sources d source line placed lined) p)))))))
 
 -- ---- threads
 

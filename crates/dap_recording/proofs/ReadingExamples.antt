@@ -1,6 +1,7 @@
 -- Worked examples of reading a recording, each shown by computation.
-use Rattle.std.proofs.Common.{◌≡◌, List, ℕ, [], ◌∷◌, codes, true, false, Option, Some, None, Ok, Err, negsuc, refl, replicate}
-use Rattle.serde_json.specs.Data.{Data, boolean, null, number, unsigned, negative, string, array, object, Items, no_items, item, Members, no_members, put}
+use Rattle.std.proofs.Common.{◌≡◌, List, ℕ, [], ◌∷◌, codes, true, false, Option, Some, None, Ok, Err, negsuc, refl, sym, ap, replicate}
+use Rattle.serde_json.specs.Data.{Data, boolean, null, number, unsigned, negative, float, string, array, object, Items, no_items, item, Members, no_members, put}
+use lib.Ieee.{nan}
 use Rattle.dap_recording.proofs.IsRead.{is_read}
 use Rattle.dap_recording.proofs.ThreeMoments.{three_moments}
 use Rattle.dap_recording.specs.Reading.{Read, Numbered, none_numbered, recording_of, verdict_of, file_sources, sources_at, variables_of, source_of, moments_of, moment_of, thread_of, frame_of, scopes_of, scope_of, stop_of}
@@ -11,6 +12,7 @@ use Rattle.dap_recording.specs.declared.reading.Teller.{Teller}
 use Rattle.dap_recording.specs.declared.reading.Teller.TheVariants as teller
 use Rattle.dap_recording.specs.declared.recording.RecordedSource.{RecordedSource}
 use Rattle.dap_debuggee.specs.declared.answers.Frame.{Frame}
+use Rattle.dap_json.specs.declared.more.Member.{Member}
 
 -- ---- data in short
 
@@ -141,6 +143,20 @@ null_is_no_list = refl
 -- a variable's children are read before the next variable
 first_child_first : variables_of (array (item (object (put (codes "name") (text (codes "v")) (put (codes "value") (text (codes "1")) (put (codes "variables") (one (object no_members)) no_members)))) (item null no_items))) [] ≡ Err key.Name
 first_child_first = refl
+
+-- ---- members beside
+
+abbrev variable_more : Data → Data
+variable_more more = object (put (codes "name") (text (codes "v")) (put (codes "value") (text (codes "1")) (put (codes "more") more no_members)))
+
+-- an own member is kept here, and left out where the body is written
+members_beside : (more : List Member) → more ≡ record { key = codes "name"; value = null } ∷ record { key = codes "type"; value = text (codes "int") } ∷ []
+    → variables_of (one (variable_more (object (put (codes "type") (text (codes "int")) (put (codes "name") null no_members))))) [] ≡ Ok (record { name = codes "v"; value = codes "1"; holder = None; more = more } ∷ [], [])
+members_beside more same = ap (λ ms. Ok (record { name = codes "v"; value = codes "1"; holder = None; more = ms } ∷ [], [])) (sym same)
+
+null_is_no_members : (variables_of (one (variable_more null)) [] ≡ Err key.More) × (variables_of (one (variable_more none)) [] ≡ Err key.More) × (variables_of (one (variable_more (object (put (codes "x") (number (float nan)) no_members)))) [] ≡ Err key.More)
+null_is_no_members = (refl, refl, refl)
+
 
 -- ---- moments
 

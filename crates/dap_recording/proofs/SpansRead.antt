@@ -7,6 +7,7 @@ use Rattle.std.specs.Ordering.{nat_cmp}
 use Rattle.std.specs.Cmp.Lexicographic.{slice_cmp}
 use Rattle.serde_json.specs.Data.{Data, array, object, Items, no_items, item, Members, no_members, member}
 use Rattle.serde_json.specs.Find.{as_str, as_bool, as_array}
+use Rattle.dap_json.specs.More.{more_of}
 use Rattle.dap_recording.specs.Reading.{required_at, optional_or, element, value_at, some_items, frame_source, frame_line, untold_of, stop_of, none_numbered, new_id, thread_place, Holders, holder_of, with_holder, variable_of, variables_of, each_variable, variables_within, read_variables, Numbered, each, scope_of, scopes_of, frame_of, thread_of, moment_of}
 use Rattle.dap_recording.specs.Recording.{IsWithin, HasOwnNumbers}
 use Rattle.dap_recording.specs.RecordingKey.{name_of}
@@ -173,8 +174,9 @@ mutual
       with_ok (required_at as_str key.Name (object ms)) _ r e (λ name named e1.
       with_ok (required_at as_str key.Value (object ms)) _ r e1 (λ value valued e2.
       with_ok (variables_within ms holders) _ r e2 (λ inner is e3.
-      subst (λ (x : Variable × Holders). FoundOne base holders x.0.holder x.1) (ok_same (record { name = name; value = value; holder = holder_of inner.0 inner.1; more = [] }, with_holder inner.0 inner.1) r e3)
-      (found_holder base holders inner.0 inner.1 (within_found base ms holders inner is a)))))
+      with_ok (optional_or more_of [] key.More (object ms)) _ r e3 (λ said told e4.
+      subst (λ (x : Variable × Holders). FoundOne base holders x.0.holder x.1) (ok_same (record { name = name; value = value; holder = holder_of inner.0 inner.1; more = said }, with_holder inner.0 inner.1) r e4)
+      (found_holder base holders inner.0 inner.1 (within_found base ms holders inner is a))))))
   variable_found base d holders r e a = absurd (cc e)
 
   variables_found : (base : Holders) (d : Data) (holders : Holders) (r : List Variable × Holders) → variables_of d holders ≡ Ok r → Added base holders → Found base holders r
@@ -218,18 +220,19 @@ unfolding scope_of
 scope_read base before found holders d next e p =
     with_ok (required_at as_str key.Name d) _ next (then_ok (element key.Scopes d) _ next e) (λ name named e1.
     with_ok (read_variables (value_at key.Variables d) holders) _ next e1 (λ inner is e2.
+    with_ok (optional_or more_of [] key.More d) _ next e2 (λ said told e3.
     let one = listed_found base (value_at key.Variables d) holders inner is p.read.added in
     let count = length-append inner.1 (inner.0 ∷ []) in
     let more : length holders ≤ length (inner.1 ++ inner.0 ∷ []) = omega (arith, count, one.longer) in
-    let scope : Scope = record { name = name; holder = length inner.1; more = [] } in
-    subst (λ (x : Scope × Holders). ScopesRead base before (found ++ x.0 ∷ [], x.1)) (ok_same (scope, inner.1 ++ inner.0 ∷ []) next e2)
+    let scope : Scope = record { name = name; holder = length inner.1; more = said } in
+    subst (λ (x : Scope × Holders). ScopesRead base before (found ++ x.0 ∷ [], x.1)) (ok_same (scope, inner.1 ++ inner.0 ∷ []) next e3)
     (record {
       read = record {
         added = added_more base inner.1 inner.0 one.added one.found;
         found = at_each_more (λ i s. Between (length base) (length (inner.1 ++ inner.0 ∷ [])) s.holder) found scope (scopes_more (length base) (length holders) (length (inner.1 ++ inner.0 ∷ [])) found more p.read.found) (last_place base holders inner one);
       };
       longer = omega (arith, more, p.longer);
-    })))
+    }))))
 
 scopes_read : (base : Holders) (given : Items) (holders : Holders) (r : List Scope × Holders) → scopes_of given holders ≡ Ok r → Added base holders → ScopesRead base holders r
 unfolding scopes_of
@@ -284,10 +287,11 @@ frame_read base before by sources found s d next e p =
     with_ok (frame_line sources source d) _ next e2 (λ line lined e3.
     with_ok (optional_or as_array no_items key.Scopes d) _ next e3 (λ given listed e4.
     with_ok (scopes_of given s.variables) _ next e4 (λ scopes scoped e5.
-    let frame : Frame = record { object = length s.scopes; name = name; source = source; line = line; more = [] } in
+    with_ok (optional_or more_of [] key.More d) _ next e5 (λ said told e6.
+    let frame : Frame = record { object = length s.scopes; name = name; source = source; line = line; more = said } in
     let after : Numbered = record { scopes = s.scopes ++ scopes.0 ∷ []; variables = scopes.1; untold = s.untold ++ untold_of given scopes.0 } in
-    subst (λ (x : Frame × Numbered). FramesRead base before (found ++ x.0 ∷ [], x.1)) (ok_same (frame, after) next e5)
-    (frame_added base before found s frame scopes after.untold refl (scopes_read base.variables given s.variables scopes scoped p.since.added) p))))))
+    subst (λ (x : Frame × Numbered). FramesRead base before (found ++ x.0 ∷ [], x.1)) (ok_same (frame, after) next e6)
+    (frame_added base before found s frame scopes after.untold refl (scopes_read base.variables given s.variables scopes scoped p.since.added) p)))))))
 
 record ThreadsRead (base : Numbered) (r : List RecordedThread × Numbered) : Type 0 where
   pub since : Since base r.1

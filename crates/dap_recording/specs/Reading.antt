@@ -11,6 +11,7 @@ use Rattle.serde_json.specs.Events.{items_len}
 use Rattle.serde_json.specs.Find.{get, as_number, as_i64, as_str, as_bool, as_array}
 use Rattle.serde_json.specs.View.{items_view}
 use Rattle.serde_json.specs.declared.value.Value.{Value}
+use Rattle.dap_json.specs.More.{more_of}
 use Rattle.dap_json.specs.Steps.{◌>>=◌, ◌>>◌, Returns}
 use Rattle.dap_json.specs.Field.{if_passes, is_object}
 use Rattle.dap_json.specs.Numbers.{int_of, number_of}
@@ -162,7 +163,8 @@ abbrev mutual
     name ← required_at as_str key.Name (object ms)
     value ← required_at as_str key.Value (object ms)
     inner ← variables_within ms holders
-    Ok (record { name = name; value = value; holder = holder_of inner.0 inner.1; more = [] }, with_holder inner.0 inner.1)
+    said ← optional_or more_of [] key.More (object ms)
+    Ok (record { name = name; value = value; holder = holder_of inner.0 inner.1; more = said }, with_holder inner.0 inner.1)
   variable_of d holders = Err key.Variables
 
   pub variables_of : Data → Holders → Read (List Variable × Holders)
@@ -191,7 +193,8 @@ variable_row d holders = do
   name ← required_at as_str key.Name d
   value ← required_at as_str key.Value d
   inner ← read_variables (value_at key.Variables d) holders
-  Ok (record { name = name; value = value; holder = holder_of inner.0 inner.1; more = [] }, with_holder inner.0 inner.1)
+  said ← optional_or more_of [] key.More d
+  Ok (record { name = name; value = value; holder = holder_of inner.0 inner.1; more = said }, with_holder inner.0 inner.1)
 
 -- ---- scopes, frames and threads
 
@@ -218,7 +221,8 @@ scope_of d holders = do
   element key.Scopes d
   name ← required_at as_str key.Name d
   inner ← read_variables (value_at key.Variables d) holders
-  Ok (record { name = name; holder = length inner.1; more = [] }, inner.1 ++ inner.0 ∷ [])
+  said ← optional_or more_of [] key.More d
+  Ok (record { name = name; holder = length inner.1; more = said }, inner.1 ++ inner.0 ∷ [])
 
 unfoldable pub scopes_of : Items → Holders → Read (List Scope × Holders)
 scopes_of given holders = each (λ earlier. scope_of) given [] holders
@@ -253,7 +257,8 @@ frame_of by sources d numbered = do
   line ← frame_line sources source d
   given ← optional_or as_array no_items key.Scopes d
   scopes ← scopes_of given numbered.variables
-  Ok (record { object = length numbered.scopes; name = name; source = source; line = line; more = [] }, record { scopes = numbered.scopes ++ scopes.0 ∷ []; variables = scopes.1; untold = numbered.untold ++ untold_of given scopes.0 })
+  said ← optional_or more_of [] key.More d
+  Ok (record { object = length numbered.scopes; name = name; source = source; line = line; more = said }, record { scopes = numbered.scopes ++ scopes.0 ∷ []; variables = scopes.1; untold = numbered.untold ++ untold_of given scopes.0 })
 
 unfoldable pub thread_of : Teller → List RecordedSource → List RecordedThread → Data → Numbered → Read (RecordedThread × Numbered)
 thread_of by sources earlier d numbered = do

@@ -1,7 +1,7 @@
 -- The keys of a recording, by their names. The format is this profile's own.
 use Rattle.std.specs.Prelude.{List, ℕ, codes}
 use Rattle.dap_recording.specs.declared.reading.RecordingKey.{RecordingKey}
-use Rattle.dap_recording.specs.declared.reading.RecordingKey.TheVariants.{Exit, Sources, Name, Path, Text, OnDisk, Moments, Threads, Id, Frames, Source, Line, Scopes, Variables, Value, Thread, Output, Waits, Stop, Description}
+use Rattle.dap_recording.specs.declared.reading.RecordingKey.TheVariants.{Exit, Sources, Name, Path, Text, OnDisk, Moments, Threads, Id, Frames, Source, Line, Scopes, Variables, Value, Thread, Output, Waits, Stop, Description, More}
 
 abbrev pub name_of : RecordingKey → List ℕ
 name_of Exit = codes "exit"
@@ -24,3 +24,4 @@ name_of Output = codes "output"
 name_of Waits = codes "waits"
 name_of Stop = codes "stop"
 name_of Description = codes "description"
+name_of More = codes "more"

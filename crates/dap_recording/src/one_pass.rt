@@ -2,7 +2,7 @@
 //!
 //! Whatever is refused, and where memory is, nothing is given, and [`Recording::read`] reads the bytes whole. So only what is
 //! given has to be right.
-ghost use Rattle.std.specs.Prelude.{◌≡◌, ℤ, List as Items, Option, Some, None, Ok, IfOk, IfSome, OnOk};
+ghost use Rattle.std.specs.Prelude.{◌≡◌, ◌≤◌, length, ℤ, List as Items, Option, Some, None, Ok, IfOk, IfSome, OnOk};
 ghost use Rattle.serde_json.specs.Data.{Data, Items as DataItems, Members, array as array_data, object, no_members, put};
 ghost use Rattle.serde_json.specs.View.{view};
 ghost use Rattle.dap_json.specs.Read.{json_of};
@@ -104,11 +104,12 @@ fn take_exit(
 }
 
 /// The sources that the items of an array are.
-fn sources(texts: &mut Texts, value: &Value) -> Result<Sources, NotGiven>
-    ensures { IfOk result (λ sources. sources_of (view value.now) ≡ Ok sources) }
+fn sources(texts: &mut Texts, value: &Value) -> Result<Vec<RecordedSource>, NotGiven>
+    ensures rows { IfOk result (λ rows. sources_of (view value.now) ≡ Ok rows.items) }
+    ensures few { IfOk result (λ rows. length rows.items ≤ 65536) }
 {
-    let sources = rows::sources_in(texts, value)?;
-    Ok(sources)
+    let rows = rows::source_rows(texts, value)?;
+    Ok(rows)
 }
 
 /// Takes the sources, which come before the moments.
@@ -123,7 +124,10 @@ fn take_sources(
         return Err(NotGiven);
     }
     let tree = object_reader.tree(texts.alloc)?;
-    let sources = sources(texts, tree.value())?;
+    let rows = sources(texts, tree.value())?;
+    // The tree of a file with many sources is great, and so is the map of their paths: one after the other.
+    drop(tree);
+    let sources = Sources::new(texts.alloc, rows)?;
     seen.sources = Some(sources);
     Ok(())
 }

@@ -4,12 +4,14 @@ ghost use Rattle.serde_json.specs.View.{view};
 ghost use Rattle.serde_json.specs.Find.{as_str, as_bool, as_array};
 ghost use Rattle.serde_json.specs.Data.{no_items};
 ghost use Rattle.dap_json.specs.Lent.{lent_data};
+ghost use Rattle.dap_json.specs.More.{more_of};
+ghost use Rattle.dap_recording.specs.declared.reading.RecordingKey.TheVariants as key;
 ghost use Rattle.dap_recording.specs.Reading.{Gives, GivesItems, element as element_of, exit_of, some_items as some_items_of, short_text as short_text_of, few_items as few_items_of, few_in, value_at, required_at, optional_at, optional_or};
 
 use crate::numbers;
 use crate::texts::Texts;
-use dap_json::Text;
 use dap_json::property::Property;
+use dap_json::{More, Text};
 use serde_json::Value;
 use std::alloc::{AllocError, AllocFailed};
 
@@ -36,6 +38,8 @@ pub enum RecordingKey {
     Waits,
     Stop,
     Description,
+    /// What stands beside a frame, a scope or a variable.
+    More,
 }
 
 /// Who tells of a moment.
@@ -118,6 +122,7 @@ impl RecordingKey {
             RecordingKey::Waits => "waits",
             RecordingKey::Stop => "stop",
             RecordingKey::Description => "description",
+            RecordingKey::More => "more",
         }
     }
 }
@@ -215,6 +220,19 @@ pub(crate) fn items(value: &Value, key: RecordingKey) -> Result<&[Value], Record
     ensures { GivesItems result (required_at as_array key (view value.now)) }
 {
     Ok(at(value, key).required_items()?)
+}
+
+/// The members of the object at `more`; none where that is absent.
+pub(crate) fn more(texts: &Texts, value: &Value) -> Result<More, RecordingFault>
+    ensures { Gives result (optional_or more_of [] key.More (view value.now)) }
+{
+    let Some(found) = at(value, RecordingKey::More).found else {
+        return Ok(More::none());
+    };
+    match More::of(texts.alloc, found)? {
+        Some(more) => Ok(more),
+        None => Err(bad(RecordingKey::More)),
+    }
 }
 
 /// An absent array is empty.

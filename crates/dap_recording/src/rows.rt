@@ -1,5 +1,5 @@
 //! From JSON to a recording: a function for each row of keys, which tests them in the order of the format.
-ghost use Rattle.std.specs.Prelude.{◌≡◌, ◌++◌, [], IfOk, OnOk};
+ghost use Rattle.std.specs.Prelude.{◌≡◌, ◌≤◌, ◌++◌, [], length, IfOk, OnOk};
 ghost use Rattle.serde_json.specs.View.{view, items_view};
 ghost use Rattle.dap_recording.specs.declared.reading.RecordingKey.TheVariants as key;
 ghost use Rattle.dap_recording.specs.Reading.{Numbered, GivesListWith, GivesList, Gives, GivesWith, none_numbered, untold_of, stop_of, frame_source as frame_source_of, frame_line as frame_line_of, value_at, required_at, read_variables, variable_row, variables_of, holder_of, with_holder, each, each_source, scope_of, scopes_of, frame_of, thread_of, moment_of, moments_of, source_of, recording_of, source_place as source_place_of, line_of, lines_at, place_of, new_id as new_id_of, thread_place as thread_place_of, sources_of, sources_at as sources_at_of, read_moment};
@@ -12,7 +12,7 @@ use crate::sources::Sources;
 use crate::texts::Texts;
 use crate::{numbers, reading};
 use dap_debuggee::{Frame, Scope, Variable};
-use dap_json::{List, More};
+use dap_json::List;
 use serde_json::Value;
 use std::alloc::{AllocError, Global};
 use std::marker::Model;
@@ -48,12 +48,13 @@ fn variable(
     let name = reading::text(texts, value, RecordingKey::Name)?;
     let text = reading::text(texts, value, RecordingKey::Value)?;
     let inner = children(texts, value, holders)?;
+    let more = reading::more(texts, value)?;
     let holder = holder(inner, holders)?;
     Ok(Variable {
         name,
         value: text,
         holder,
-        more: More::none(),
+        more,
     })
 }
 
@@ -103,13 +104,10 @@ fn scope(
     reading::element(value, RecordingKey::Scopes)?;
     let name = reading::text(texts, value, RecordingKey::Name)?;
     let inner = children(texts, value, holders)?;
+    let more = reading::more(texts, value)?;
     let holder = holders.len() as u64;
     holders.push(List::new(inner))?;
-    Ok(Scope {
-        name,
-        holder,
-        more: More::none(),
-    })
+    Ok(Scope { name, holder, more })
 }
 
 #[tactic(auto, unfolding(crate::specs::Reading::scopes_of))]
@@ -242,6 +240,7 @@ fn frame(
     let line = frame_line(sources, source, value)?;
     let items = reading::items_if_any(value, RecordingKey::Scopes)?;
     let scopes = each_scope(texts, items, &mut numbers.variables)?;
+    let more = reading::more(texts, value)?;
     add_untold(items, &scopes, &mut numbers.untold)?;
     let object = numbers.scopes.len() as u64;
     numbers.scopes.push(List::new(scopes))?;
@@ -250,7 +249,7 @@ fn frame(
         name,
         source,
         line,
-        more: More::none(),
+        more,
     })
 }
 
@@ -527,13 +526,25 @@ pub(crate) fn recording(texts: &mut Texts, value: &Value) -> Result<Recording, R
     Ok(numbers.into_recording(exit, sources, moments))
 }
 
+/// The sources that an array is, before the map of their paths is made.
+pub(crate) fn source_rows(
+    texts: &mut Texts,
+    value: &Value,
+) -> Result<Vec<RecordedSource>, RecordingFault>
+    ensures rows { GivesList result (sources_of (view value.now)) }
+    ensures few { IfOk result (λ rows. length rows.items ≤ 65536) }
+{
+    let items = reading::few(value, RecordingKey::Sources)?;
+    let rows = sources(texts, items)?;
+    Ok(rows)
+}
+
 /// The sources that an array is.
 pub(crate) fn sources_in(texts: &mut Texts, value: &Value) -> Result<Sources, RecordingFault>
     ensures { Gives result (sources_of (view value.now)) }
 {
-    let items = reading::few(value, RecordingKey::Sources)?;
-    let sources = sources(texts, items)?;
-    Ok(Sources::new(texts.alloc, sources)?)
+    let rows = source_rows(texts, value)?;
+    Ok(Sources::new(texts.alloc, rows)?)
 }
 
 /// The sources of an object.

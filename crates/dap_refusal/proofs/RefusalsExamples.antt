@@ -1,11 +1,12 @@
 -- Worked examples of why JSON is no recording, each shown by computation.
 use Rattle.std.proofs.Common.{◌≡◌, List, ℕ, [], ◌∷◌, codes, replicate, Option, Some, None, pos, negsuc, refl}
-use Rattle.serde_json.specs.Data.{Data, null, number, unsigned, negative, string, array, object, Items, no_items, item, Members, no_members, put}
+use lib.Ieee.{nan}
+use Rattle.serde_json.specs.Data.{Data, null, number, unsigned, negative, float, string, array, object, Items, no_items, item, Members, no_members, put}
 use Rattle.dap_refusal.specs.Refusals.{refusal_of, scope_row, scopes_row, frame_row, thread_row, moment_row, source_row, recording_row}
 use Rattle.dap_recording.specs.declared.reading.RecordingKey.{RecordingKey}
 use Rattle.dap_recording.specs.declared.reading.RecordingKey.TheVariants as key
 use Rattle.dap_refusal.specs.declared.refusal.BadCause.{BadCause}
-use Rattle.dap_refusal.specs.declared.refusal.BadCause.TheVariants.{Absent, OtherKind, NoElements, TooLong, OutOfRange, NoSource, PastLines, DuplicateId, NoThread}
+use Rattle.dap_refusal.specs.declared.refusal.BadCause.TheVariants.{Absent, OtherKind, NoElements, TooLong, OutOfRange, NotPlain, NoSource, PastLines, DuplicateId, NoThread}
 use Rattle.dap_refusal.specs.declared.refusal.Element.{Element}
 use Rattle.dap_refusal.specs.declared.refusal.JsonKind.TheVariants as kind
 use Rattle.dap_refusal.specs.declared.refusal.RecordingRefusal.{RecordingRefusal}
@@ -125,6 +126,22 @@ nested = refl
 nested_number : refusal_of (Some (over (frame_with (whole 0) (whole 1) (holding (one (variable_with (one (whole 5)))))))) ≡ bad (at key.Moments 0 ∷ at key.Threads 0 ∷ at key.Frames 0 ∷ at key.Scopes 0 ∷ at key.Variables 0 ∷ []) key.Variables (Some 0) (OtherKind kind.Number kind.Object)
 unfolding recording_row source_row moment_row thread_row frame_row scopes_row scope_row
 nested_number = refl
+
+-- ---- members beside
+
+abbrev variable_more : Data → Data
+variable_more more = object (put (codes "name") (text (codes "v")) (put (codes "value") (text (codes "1")) (put (codes "more") more no_members)))
+
+abbrev in_variable : List Element
+in_variable = at key.Moments 0 ∷ at key.Threads 0 ∷ at key.Frames 0 ∷ at key.Scopes 0 ∷ at key.Variables 0 ∷ []
+
+float_beside : refusal_of (Some (over (frame_with (whole 0) (whole 1) (holding (one (variable_more (object (put (codes "x") (number (float nan)) no_members)))))))) ≡ bad in_variable key.More None NotPlain
+unfolding recording_row source_row moment_row thread_row frame_row scopes_row scope_row
+float_beside = refl
+
+null_beside : refusal_of (Some (over (frame_with (whole 0) (whole 1) (put (codes "more") null no_members)))) ≡ bad in_frame key.More None (OtherKind kind.Null kind.Object)
+unfolding recording_row source_row moment_row thread_row frame_row scopes_row scope_row
+null_beside = refl
 
 -- ---- threads
 

@@ -9,13 +9,15 @@ use Rattle.serde_json.specs.Events.{items_len}
 use Rattle.serde_json.specs.Find.{as_str, as_bool, as_array}
 use Rattle.dap_json.specs.Steps.{◌>>=◌, ◌>>◌}
 use Rattle.dap_json.specs.Field.{if_passes, is_object}
+use Rattle.dap_json.specs.More.{more_of}
+use Rattle.dap_json.specs.declared.more.Member.{Member}
 use Rattle.dap_command.specs.Numbers.{int_of, number_of}
 use Rattle.dap_recording.specs.Reading as read
 use Rattle.dap_recording.specs.Reading.{Read, Holders, Numbered, none_numbered, recorder, or_bad, short_text, frame_source, frame_line, stop_of, in_shape, required_at, value_at, exit_of, line_of, place_of, verdict_of, or_fault, recording_of, source_of, moment_of, moments_of, thread_of, frame_of, scope_of, scopes_of}
 use Rattle.dap_recording.specs.Recording.{line_count}
 use Rattle.dap_recording.specs.RecordingKey.{name_of}
 use Rattle.dap_refusal.specs.Refusals
-use Rattle.dap_refusal.specs.Refusals.{Checked, text_cause, own_stop_row, here, element_here, within, kind_of, other_than, or_here, due_in, due_at, any_in, any_at, in_place, in_element, each_element, has_id, place_below, other_id, known_id, variable_in, variables_in, each_variable, variables_among, variables_if_any, scope_row, scopes_row, frame_row, thread_row, moment_row, source_row, recording_row, bad_key_in, refusal_of, IsWhy, RefusalsAreFaults, no_exit, source_cause, line_cause, id_cause, thread_cause, lines_at}
+use Rattle.dap_refusal.specs.Refusals.{Checked, text_cause, own_stop_row, here, element_here, within, kind_of, other_than, or_here, due_in, due_at, any_in, any_at, in_place, in_element, each_element, has_id, place_below, other_id, known_id, variable_in, variables_in, each_variable, variables_among, variables_if_any, more_row, more_cause, scope_row, scopes_row, frame_row, thread_row, moment_row, source_row, recording_row, bad_key_in, refusal_of, IsWhy, RefusalsAreFaults, no_exit, source_cause, line_cause, id_cause, thread_cause, lines_at}
 use Rattle.dap_debuggee.specs.declared.answers.Variable.{Variable}
 use Rattle.dap_recording.specs.declared.reading.RecordingKey.{RecordingKey}
 use Rattle.dap_recording.specs.declared.reading.RecordingKey.TheVariants as key
@@ -197,6 +199,17 @@ agree_then (Ok x) c (Err k) g e next = absurd e
 agree_then (Err place) c (Ok y) g e next = absurd e
 agree_then (Err place) c (Err k) g e next = e
 
+-- two steps that are one here, and more behind them
+agree_within : {A B D : Type 0} (R : A → B → Type 0) (a : Checked A) (b : Read B) (f : A → Checked (Unit {0})) (c : Checked (Unit {0})) (g : B → Read D) → Agree R a b → ((x : A) (y : B) → R x y → Agree Any (f x >> c) (g y)) → Agree Any ((a >>= f) >> c) (b >>= g)
+agree_within R (Ok x) (Ok y) f c g r next = next x y r
+agree_within R (Ok x) (Err k) f c g r next = absurd r
+agree_within R (Err place) (Ok y) f c g r next = absurd r
+agree_within R (Err place) (Err k) f c g r next = r
+
+-- what stands beside, in the end
+agree_more : {C : Type 0} (d : Data) (g : List Member → C) → Agree Any (more_row d) (read.optional_or more_of [] key.More d >>= (λ said. Ok (g said)))
+agree_more d g = agree_bind Same Any _ _ _ _ (agree_or_default more_of more_cause [] key.More (value_at key.More d)) (λ x y e. tt)
+
 mutual
   agree_variable : (n : ℕ) (d : Data) (holders : Holders) → Agree Any (in_element key.Variables n d (variable_in d)) (read.variable_of d holders)
   agree_variable n null holders = refl
@@ -207,7 +220,7 @@ mutual
   agree_variable n (object ms) holders = agree_in_place Any key.Variables n _ _
       (agree_bind Same Any _ _ _ _ (agree_text key.Name (object ms))
       (λ x y e. agree_bind Same Any _ _ _ _ (agree_text key.Value (object ms))
-      (λ v w f. agree_end (variables_among ms) (read.variables_within ms holders) _ (agree_among ms holders))))
+      (λ v w f. agree_then (variables_among ms) (more_row (object ms)) (read.variables_within ms holders) _ (agree_among ms holders) (λ inner. agree_more (object ms) _))))
 
   agree_variables : (d : Data) (holders : Holders) → Agree Any (variables_in d) (read.variables_of d holders)
   agree_variables null holders = refl
@@ -237,7 +250,7 @@ agree_scope : (n : ℕ) (d : Data) (holders : Holders) → Agree Any (in_element
 unfolding scope_row scope_of
 agree_scope n d holders = agree_element Any key.Scopes n d _ _
     (agree_bind Same Any _ _ _ _ (agree_text key.Name d)
-    (λ x y e. agree_end (variables_if_any (value_at key.Variables d)) (read.read_variables (value_at key.Variables d) holders) _ (agree_children (value_at key.Variables d) holders)))
+    (λ x y e. agree_then (variables_if_any (value_at key.Variables d)) (more_row d) (read.read_variables (value_at key.Variables d) holders) _ (agree_children (value_at key.Variables d) holders) (λ inner. agree_more d _)))
 
 -- nothing is kept of the elements
 abbrev No : {A T : Type 0} → Unit {0} → List A → T → Type 0
@@ -274,8 +287,8 @@ agree_frame sources n d numbered = agree_element Any key.Frames n d _ _
     (agree_bind Same Any _ _ _ _ (agree_text key.Name d)
     (λ x y e. agree_bind (λ v w. Some v ≡ w) Any _ _ _ _ (agree_there _ _ (agree_source sources d))
     (λ v w f. agree_bind Same Any _ _ _ _ (agree_line_there sources v w d f)
-    (λ a b g. agree_bind Same Any _ _ _ _ (agree_or_default as_array (other_than kind.Array) no_items key.Scopes (value_at key.Scopes d))
-    (λ ds es h. agree_end (each_element key.Scopes (λ q s. scope_row q) 0 ds tt) (scopes_of es numbered.variables) _ (agree_scopes ds es numbered.variables h))))))
+    (λ a b g. agree_within Same _ _ _ (more_row d) _ (agree_or_default as_array (other_than kind.Array) no_items key.Scopes (value_at key.Scopes d))
+    (λ ds es h. agree_then (each_element key.Scopes (λ q s. scope_row q) 0 ds tt) (more_row d) (scopes_of es numbered.variables) _ (agree_scopes ds es numbered.variables h) (λ scopes. agree_more d _))))))
 
 -- the ids of the threads so far
 abbrev HasIdsOf : {T : Type 0} → List ℤ → List RecordedThread → T → Type 0

@@ -13,6 +13,7 @@ use Rattle.serde_json.specs.View.{items_view}
 use Rattle.serde_json.specs.declared.value.Value.{Value}
 use Rattle.dap_json.specs.Steps.{◌>>=◌, ◌>>◌, Returns}
 use Rattle.dap_json.specs.Field.{if_passes, is_object}
+use Rattle.dap_json.specs.More.{more_of}
 use Rattle.dap_command.specs.Numbers.{int_of, number_of}
 use Rattle.dap_recording.specs.Reading.{value_at, exit_of, short_text, line_of, verdict_of}
 use Rattle.dap_recording.specs.Recording.{line_count}
@@ -23,7 +24,7 @@ use Rattle.dap_recording.specs.declared.reading.RecordingFault.{RecordingFault}
 use Rattle.dap_recording.specs.declared.reading.RecordingFault.TheVariants.{NotJson, NotObject, BadKey}
 use Rattle.dap_recording.specs.declared.recording.Recording.{Recording}
 use Rattle.dap_refusal.specs.declared.refusal.BadCause.{BadCause}
-use Rattle.dap_refusal.specs.declared.refusal.BadCause.TheVariants.{Absent, OtherKind, NoElements, TooMany, TooLong, OutOfRange, NoSource, PastLines, DuplicateId, NoThread}
+use Rattle.dap_refusal.specs.declared.refusal.BadCause.TheVariants.{Absent, OtherKind, NoElements, TooMany, TooLong, OutOfRange, NotPlain, NoSource, PastLines, DuplicateId, NoThread}
 use Rattle.dap_refusal.specs.declared.refusal.BadPlace.{BadPlace}
 use Rattle.dap_refusal.specs.declared.refusal.JsonKind.{JsonKind}
 use Rattle.dap_refusal.specs.declared.refusal.JsonKind.TheVariants as kind
@@ -106,6 +107,10 @@ abbrev pub thread_cause : Data → Option ℤ → BadCause
 thread_cause d None = no_id d
 thread_cause d (Some id) = NoThread id
 
+-- of an object whose members cannot stand beside others
+abbrev pub more_cause : Data → BadCause
+more_cause d = if is_object d then NotPlain else other_than kind.Object d
+
 -- ---- keys
 
 abbrev pub or_here : {A : Type 0} → RecordingKey → BadCause → Option A → Checked A
@@ -146,6 +151,12 @@ items_at k d = due_at as_array (other_than kind.Array) k d
 
 abbrev pub items_if_any : RecordingKey → Data → Checked Items
 items_if_any k d = any_at as_array (other_than kind.Array) no_items k d
+
+-- members that stand beside those of an element
+abbrev pub more_row : Data → Checked (Unit {0})
+more_row d = do
+  said ← any_at more_of more_cause [] key.More d
+  Ok tt
 
 -- one element or more
 abbrev pub some_items_at : RecordingKey → Data → Checked Items
@@ -212,6 +223,7 @@ abbrev mutual
     name ← text_at key.Name (object ms)
     value ← text_at key.Value (object ms)
     variables_among ms
+    more_row (object ms)
   variable_in d = Err (here key.Name Absent)
 
   pub variables_in : Data → Checked (Unit {0})
@@ -237,6 +249,7 @@ variable_row d = do
   name ← text_at key.Name d
   value ← text_at key.Value d
   variables_if_any (value_at key.Variables d)
+  more_row d
 
 -- ---- scopes, frames and threads
 
@@ -244,6 +257,7 @@ unfoldable pub scope_row : Data → Checked (Unit {0})
 scope_row d = do
   name ← text_at key.Name d
   variables_if_any (value_at key.Variables d)
+  more_row d
 
 unfoldable pub scopes_row : Data → Checked (Unit {0})
 scopes_row d = do
@@ -261,6 +275,7 @@ frame_row lines d = do
   source ← source_at (length lines) d
   line ← line_at (lines_at lines source) d
   scopes_row d
+  more_row d
 
 -- the ids so far, with that of one more thread
 unfoldable pub thread_row : List ℕ → Data → List ℤ → Checked (List ℤ)

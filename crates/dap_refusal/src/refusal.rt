@@ -56,6 +56,8 @@ pub enum BadCause {
         bytes: u64,
         most: u64,
     },
+    /// An object has a float among its members, or nests more than 100 deep.
+    NotPlain,
     /// A source of a frame is not below the count of sources.
     NoSource {
         source: u32,

@@ -5,14 +5,14 @@ ghost use Rattle.serde_json.specs.Data.{no_items};
 ghost use Rattle.serde_json.specs.Find.{as_str, as_bool, as_array};
 ghost use Rattle.serde_json.specs.View.{view, items_view};
 ghost use Rattle.dap_recording.specs.Reading.{value_at, exit_of, line_of};
-ghost use Rattle.dap_refusal.specs.Refusals.{here as here_of, element_here, within as within_of, kind_of as kind_of_data, other_than, no_number as no_number_of, no_exit, no_id as no_id_of, source_cause, line_cause, id_cause, thread_cause, or_here, due_in, due_at, any_at, text_at, text_if_any as text_if_any_of, text_cause, short_text_if_any as short_text_if_any_of, flag_if_any as flag_if_any_of, items_at, items_if_any as items_if_any_of, some_items_at, few_items_at, exit_at, source_at, line_at, has_id as has_id_of, id_at, thread_at, in_element, each_element, variables_in, variables_if_any as variables_if_any_of, variable_row as variable_row_of, scope_row as scope_row_of, scopes_row as scopes_row_of, lines_at as lines_at_of, frame_row as frame_row_of, thread_row as thread_row_of, own_stop_row, moment_row as moment_row_of, source_row as source_row_of, recording_row as recording_row_of, refusal_of as refusal_of_data, Finds, FindsAll, FindsText, FindsItems, StopsWithin, bad_key_in};
+ghost use Rattle.dap_refusal.specs.Refusals.{here as here_of, element_here, within as within_of, kind_of as kind_of_data, other_than, no_number as no_number_of, no_exit, no_id as no_id_of, source_cause, line_cause, id_cause, thread_cause, more_cause, more_row, or_here, due_in, due_at, any_at, text_at, text_if_any as text_if_any_of, text_cause, short_text_if_any as short_text_if_any_of, flag_if_any as flag_if_any_of, items_at, items_if_any as items_if_any_of, some_items_at, few_items_at, exit_at, source_at, line_at, has_id as has_id_of, id_at, thread_at, in_element, each_element, variables_in, variables_if_any as variables_if_any_of, variable_row as variable_row_of, scope_row as scope_row_of, scopes_row as scopes_row_of, lines_at as lines_at_of, frame_row as frame_row_of, thread_row as thread_row_of, own_stop_row, moment_row as moment_row_of, source_row as source_row_of, recording_row as recording_row_of, refusal_of as refusal_of_data, Finds, FindsAll, FindsText, FindsItems, StopsWithin, bad_key_in};
 ghost use Rattle.dap_command.specs.Numbers.{int_of, number_of};
 ghost use Rattle.dap_recording.specs.declared.reading.RecordingKey.TheVariants as key;
 ghost use Rattle.dap_refusal.specs.declared.refusal.JsonKind.TheVariants as kind;
 ghost use Rattle.dap_json.specs.Read.{json_of};
 
 use crate::refusal::{BadCause, BadPlace, Element, JsonKind, RecordingRefusal};
-use dap_json::{List, ParseFault};
+use dap_json::{List, More, ParseFault};
 use dap_recording::{RecordingKey, numbers};
 use serde_json::Value;
 use std::alloc::{AllocError, AllocFailed, Global};
@@ -231,6 +231,30 @@ fn items_if_any(alloc: Global, value: &Value, key: RecordingKey) -> Result<&[Val
     }
 }
 
+/// Why the members of a value cannot stand beside others.
+fn no_more(value: &Value) -> BadCause
+    ensures { result ≡ more_cause (view value.now) }
+{
+    if value.is_object() {
+        BadCause::NotPlain
+    } else {
+        other(value, JsonKind::Object)
+    }
+}
+
+/// Members that stand beside those of an element, if there are some.
+fn more(alloc: Global, value: &Value) -> Result<(), Stop>
+    ensures { Finds result (more_row (view value.now)) }
+{
+    let Some(found) = value.get(RecordingKey::More.name()) else {
+        return Ok(());
+    };
+    match More::of(alloc, found)? {
+        Some(_) => Ok(()),
+        None => Err(here(alloc, RecordingKey::More, no_more(found))),
+    }
+}
+
 #[tactic(auto, using(crate::proofs::CheckedElements::count_is_length))]
 fn some_items(alloc: Global, value: &Value, key: RecordingKey) -> Result<&[Value], Stop>
     ensures { FindsItems result (some_items_at key (view value.now)) }
@@ -389,7 +413,8 @@ fn variable(alloc: Global, value: &Value) -> Result<(), Stop>
 {
     text(alloc, value, RecordingKey::Name)?;
     text(alloc, value, RecordingKey::Value)?;
-    children(alloc, value)
+    children(alloc, value)?;
+    more(alloc, value)
 }
 
 /// The variables at the key for them.
@@ -428,7 +453,8 @@ fn scope(alloc: Global, value: &Value) -> Result<(), Stop>
     ensures { Finds result (scope_row_of (view value.now)) }
 {
     text(alloc, value, RecordingKey::Name)?;
-    children(alloc, value)
+    children(alloc, value)?;
+    more(alloc, value)
 }
 
 fn each_scope(alloc: Global, items: &[Value]) -> Result<(), Stop>
@@ -469,7 +495,8 @@ fn frame(alloc: Global, lines: &[u64], value: &Value) -> Result<(), Stop>
     text(alloc, value, RecordingKey::Name)?;
     let source = source(alloc, value, lines.len() as u64)?;
     line(alloc, value, lines_of(lines, source))?;
-    scopes(alloc, value)
+    scopes(alloc, value)?;
+    more(alloc, value)
 }
 
 fn each_frame(alloc: Global, lines: &[u64], items: &[Value]) -> Result<(), Stop>

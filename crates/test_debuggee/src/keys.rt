@@ -207,7 +207,14 @@ static VARIABLES_AND_THE_REST: &str =
 "exit":3,"sources":|"x":null,"exit":null,"sources":|Exit
 "exit":3|"other":[1],"exit":3|none
 "thread":1,"output":"o","waits":true|"waits":null,"output":null,"thread":null|Thread
-"name":"v","value":"1"|"value":1,"name":1|Name"#;
+"name":"v","value":"1"|"value":1,"name":1|Name
+"name":"v","value":"1"|"name":"v","value":"1","more":{"type":"int","name":null}|none
+"name":"v","value":"1"|"name":"v","value":"1","more":{"x":[1.5]}|More
+"name":"v","value":"1"|"name":"v","value":"1","more":null|More
+"name":"v","value":"1"|"name":"v","value":"1","more":["x"]|More
+"variables":[{"name":"w","value":"2"}]|"more":1,"variables":[null]|Variables
+"variables":[{"name":"w","value":"2"}]|"more":1|More
+"waits":true|"waits":true,"more":1|none"#;
 
 /// Variables, the rest of a moment, and the order of keys.
 #[test]

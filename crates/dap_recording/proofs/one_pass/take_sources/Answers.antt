@@ -6,5 +6,5 @@ use Rattle.dap_recording.proofs.one_pass.take_sources.Goals as goal
 pub returns : goal.returns
 returns c =
     let tree = c.in_ok-tree.tree in
-    let read : sources_of tree ≡ Ok c.in_ok-sources.sources = ap sources_of (sym c.value.ensures) ∙ c.in_ok-sources.ensures in
+    let read : sources_of tree ≡ Ok c.in_ok-sources.sources = ap sources_of (sym c.value.ensures) ∙ c.in_ok-rows.ensures.rows ∙ ap Ok (sym c.in_ok-sources.ensures) in
     (tree, c.in_ok-tree.ensures, λ found holds. sources_taken tree found c.args.seen.now c.in_ok-sources.sources read (sym c.is_some.ensures ∙ c.if-is_some.false) holds)
