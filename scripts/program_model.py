@@ -19,6 +19,8 @@ from slow_check import MAX_FILE, Refused, is_text, is_whole, need, read_json, re
 
 MAX_SOURCES = 65536
 MAX_LINE = 2147483647
+# Of the members beside a frame, a scope or a variable, with the object that has them.
+MAX_MORE_NESTING = 100
 # Of the texts of a stop, in UTF-8.
 MAX_BYTES = {"stop": 64, "description": 128, "text": 128}
 
@@ -121,6 +123,7 @@ def bad_keys_of_frame(one, counts):
     if not is_within(one.get("line"), 1, min(counts[one["source"]], MAX_LINE)):
         yield "line"
     yield from bad_keys_in(one, "scopes", bad_keys_of_scope)
+    yield from bad_members_beside(one)
 
 
 def bad_keys_of_scope(scope):
@@ -128,6 +131,7 @@ def bad_keys_of_scope(scope):
         yield "scopes"
     yield from bad_texts(scope, "name")
     yield from bad_keys_in(scope, "variables", bad_keys_of_variable)
+    yield from bad_members_beside(scope)
 
 
 def bad_keys_of_variable(variable):
@@ -135,6 +139,21 @@ def bad_keys_of_variable(variable):
         yield "variables"
     yield from bad_texts(variable, "name", "value")
     yield from bad_keys_in(variable, "variables", bad_keys_of_variable)
+    yield from bad_members_beside(variable)
+
+
+def bad_members_beside(told):
+    more = told.get("more", {})
+    if not isinstance(more, dict) or nesting(more) > MAX_MORE_NESTING:
+        yield "more"
+
+
+def nesting(value):
+    """How deep a value nests; without end where there is a float in it."""
+    if isinstance(value, float):
+        return float("inf")
+    inner = value.values() if isinstance(value, dict) else value if isinstance(value, list) else None
+    return 0 if inner is None else 1 + max(map(nesting, inner), default=0)
 
 
 def bad_keys_in(told, key, bad_keys_of_one):

@@ -115,6 +115,11 @@ def pieces(output):
         yield piece
 
 
+def beside(told, own, *absent):
+    """An element's own members, and what a recording tells beside them: in place of none, also not of one that is absent."""
+    return {**{key: value for key, value in told.get("more", {}).items() if key not in absent}, **own}
+
+
 class Failed(Exception):
     """A request fails, by one of the names of `FAILURES`."""
 
@@ -524,13 +529,13 @@ class Session:
     def stack_trace(self, arguments):
         frames = self.thread(arguments)["frames"]
         rows = [
-            {
+            beside(one, {
                 "column": self.first_column,
                 "id": self.references.number("frame", one),
                 "line": one["line"] - 1 + self.first_line,
                 "name": one["name"],
                 "source": self.source(one["source"]),
-            }
+            })
             for one in window(frames, arguments.get("startFrame"), arguments.get("levels"))
         ]
         return {"stackFrames": rows, "totalFrames": len(frames)}
@@ -538,8 +543,8 @@ class Session:
     def scopes(self, arguments):
         frame = self.references.thing("frame", arguments["frameId"])
         rows = [
-            {"expensive": False, "name": scope["name"], "variablesReference": self.references.number("holder", scope)}
-            for scope in self.debuggee.scopes(frame)
+            beside(one, {"expensive": False, "name": one["name"], "variablesReference": self.references.number("holder", one)})
+            for one in self.debuggee.scopes(frame)
         ]
         return {"scopes": rows}
 
@@ -554,7 +559,8 @@ class Session:
         if self.paging:
             there = window(there, arguments.get("start"), arguments.get("count"))
         rows = [
-            {"name": one["name"], "value": value, "variablesReference": self.holder(one)} for one, value in there
+            beside(one, {"name": one["name"], "value": value, "variablesReference": self.holder(one)})
+            for one, value in there
         ]
         return {"variables": rows}
 
@@ -562,7 +568,8 @@ class Session:
         number = arguments.get("frameId")
         frame = None if number is None else self.references.thing("frame", number)
         found, value = self.debuggee.evaluate(frame, arguments["expression"])
-        return {"result": value, "variablesReference": self.holder(found)}
+        own = {"result": value, "variablesReference": self.holder(found)}
+        return beside(found, own, "scopes", "stackFrames", "variables")
 
     def content(self, arguments):
         inner = (arguments.get("source") or {}).get("sourceReference")
