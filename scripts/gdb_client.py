@@ -75,8 +75,8 @@ def judge(path):
 class Client(client.Client):
     """A client of the adapter, whose transcript is written to a file."""
 
-    def __init__(self, folder, name, *words, seconds=120, **more):
-        self.path = os.path.join(folder, name)
+    def __init__(self, folder, name, *words, seconds=120, says=(), **more):
+        self.path, self.says = os.path.join(folder, name), dict(says)
         super().__init__([ADAPTER, *words], seconds, **{"env": ENVIRONMENT, **more})
 
     def event(self, *names):
@@ -95,7 +95,7 @@ class Client(client.Client):
 
     def start(self, lines, source=SOURCE, request="launch", **arguments):
         """Starts the program with these breakpoints, and gives which are verified."""
-        self.ask("initialize", adapterID="gdb")
+        self.ask("initialize", adapterID="gdb", **self.says)
         self.event("initialized")
         asked = self.send(request, **arguments)
         verified = self.set_breakpoints(lines, source)

@@ -57,6 +57,7 @@ class Adapter:
         self.debuggee = Debuggee(self.watch)
         self.lines, self.heard, self.silent = None, [], False
         self.launch, self.started, self.notes, self.first_line = None, False, [], 1
+        self.wants_types = False
         self.running, self.entry, self.here, self.setting, self.found_more = False, False, None, None, False
         self.ending, self.kills, self.attaching = None, False, False
 
@@ -349,6 +350,7 @@ class Adapter:
         """Works out what the client asks for, before it is answered: whether its message was changed."""
         if command == "initialize":
             self.first_line = 0 if arguments.get("linesStartAt1") is False else 1
+            self.wants_types = arguments.get("supportsVariableType") is True
         elif command in ("launch", "attach") and not self.started:
             self.learn_launch(command, arguments)
         elif command in LAST:
@@ -385,7 +387,7 @@ class Adapter:
         """Tells the variables of a holder, once a stop."""
         if not self.here.is_told(holder):
             with self.debuggee.looking(self.here.frame_of(holder)):
-                variables = self.here.variables(holder)
+                variables = self.here.variables(holder, self.wants_types)
             self.tell_fault("")
             self.say("learned", holder=holder, variables=variables)
 

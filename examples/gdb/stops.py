@@ -7,7 +7,7 @@ import os
 import gdb
 
 from texts import clean
-from values import all_parts, has_parts, part, rest_of, shown
+from values import all_parts, has_parts, part, rest_of, shown, type_of
 
 MOST_FRAMES = 200  # of a thread
 OURS = 1000000  # holders from here on are ours; those of a moment are counted from 0
@@ -72,12 +72,13 @@ class Stop:
         """The frame that a holder is in."""
         return self.holders[holder][0]
 
-    def variables(self, holder):
+    def variables(self, holder, with_types):
         """The variables of a holder, in its frame, which is selected."""
         where, call = self.holders[holder]
         self.parts[holder] = all_parts(call)
         self.told[holder] = [shown(one.value) for one in self.parts[holder]]
-        return [{"name": clean(one.name), "value": text, **self.holder_of(where, one)}
+        beside = type_of if with_types else lambda _: {}
+        return [{"name": clean(one.name), "value": text, **self.holder_of(where, one), **beside(one.value)}
                 for one, text in zip(self.parts[holder], self.told[holder])]
 
     def holder_of(self, where, one):

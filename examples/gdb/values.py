@@ -41,7 +41,19 @@ def shown(value):
         text = value if isinstance(value, str) else object_of(value).format_string(max_elements=MOST_SHOWN, max_depth=LEVELS)
     except FAULTS as fault:
         text = "<%s>" % fault
+    return within(text)
+
+
+def within(text):
     return clean(text if len(text) <= MOST_TEXT else text[:MOST_TEXT] + "...")
+
+
+def type_of(value):
+    """What stands beside a variable: the text of its value's type, where it has one."""
+    try:
+        return {"more": {"type": within(str(value.type))}} if isinstance(value, gdb.Value) else {}
+    except FAULTS:
+        return {}
 
 
 def part(name, expression, call):

@@ -1,9 +1,10 @@
 //! What the host has to do: acts that the session asked for go out, one a call, with their lines and texts by a copy. Only what
 //! waits behind the handle and what the caller lends for an answer are touched; the session is as it was.
-ghost use Rattle.std.specs.Prelude.{◌≡◌, ◌<◌, ◌++◌, ◌∷◌, [], length, drop, IfSome, IsSome, None, true};
+ghost use Rattle.std.specs.Prelude.{◌≡◌, ◌<◌, ◌++◌, ◌∷◌, [], length, drop, IfSome, IsSome, None, true, ◌≢◌};
 ghost use Rattle.dap_c_adapter.specs.Acts.{IsActFound, how_number, path_of, reference_in, lines_of, source_of, variable_of, value_of, PutsPart};
 ghost use Rattle.dap_c_adapter.specs.AdapterCalls.{KeepsSession, acts_due};
-ghost use Rattle.dap_c_parts.specs.Behind.{FromTo};
+ghost use Rattle.dap_c_adapter.specs.AdapterBehind.{IsFull, IsEmpty, IfFull, FromTo};
+ghost use Rattle.dap_c_adapter.specs.AdapterExports.{FindsAct, FetchesFirst, HasNoAct, IsCodeOfAct, LeavesDue};
 
 use crate::adapter_handle::YtAdapter;
 use crate::held_adapter::HeldAdapter;
@@ -179,18 +180,18 @@ fn next_act(alloc: Global, held: &mut HeldAdapter, act: &mut YtAct) -> u32
 /// piece, until it answers that. Where it is `YT_NO_MEMORY`, no act is lost, and it can be called again.
 #[unsafe(no_mangle)]
 pub extern "C" fn yt_adapter_act(alloc: Global, adapter: &mut YtAdapter, act: &mut YtAct) -> u32
-    ensures none { adapter.old.inner.value ≡ None → (result ≡ YT_NONE) × (act.new ≡ act.old) }
-    ensures held { IsSome adapter.old.inner.value → IsSome adapter.new.inner.value }
-    ensures some { FromTo adapter.old.inner.value adapter.new.inner.value (λ a b. result ≡ YT_OK → IsSome b.act) }
-    ensures found { FromTo adapter.old.inner.value adapter.new.inner.value (λ a b. result ≡ YT_OK → IfSome b.act (λ x. IsActFound x act.new)) }
+    ensures none { IsEmpty adapter.old → (result ≡ YT_NONE) × (act.new ≡ act.old) }
+    ensures held { IsFull adapter.old → IsFull adapter.new }
+    ensures some { FromTo adapter.old adapter.new (λ a b. result ≡ YT_OK → IsSome b.act) }
+    ensures found { FromTo adapter.old adapter.new (FindsAct result act.new) }
 
     // The acts that were asked for come in that order, each once.
-    ensures first { FromTo adapter.old.inner.value adapter.new.inner.value (λ a b. result ≡ YT_OK → IfSome b.act (λ x. acts_due a ≡ x ∷ acts_due b)) }
-    ensures nothing { FromTo adapter.old.inner.value adapter.new.inner.value (λ a b. result ≡ YT_NOTHING → (b.act ≡ None) × (acts_due a ≡ [])) }
-    ensures left { FromTo adapter.old.inner.value adapter.new.inner.value (λ a b. (result ≡ YT_OK → ⊥) → acts_due b ≡ acts_due a) }
-    ensures untold { (result ≡ YT_OK → ⊥) → act.new ≡ act.old }
-    ensures same { FromTo adapter.old.inner.value adapter.new.inner.value (λ a b. KeepsSession a b) }
-    ensures codes { IsSome adapter.old.inner.value → (result ≡ YT_OK → ⊥) → (result ≡ YT_NOTHING → ⊥) → result ≡ YT_NO_MEMORY }
+    ensures first { FromTo adapter.old adapter.new (FetchesFirst result) }
+    ensures nothing { FromTo adapter.old adapter.new (HasNoAct result) }
+    ensures left { FromTo adapter.old adapter.new (LeavesDue result) }
+    ensures untold { result ≢ YT_OK → act.new ≡ act.old }
+    ensures same { FromTo adapter.old adapter.new KeepsSession }
+    ensures codes { IsFull adapter.old → IsCodeOfAct result }
 {
     let Some(mut held) = take_out(alloc, adapter) else {
         return YT_NONE;
@@ -212,9 +213,9 @@ fn put_lines(act: &Option<HostAct>, out: &mut [u32]) -> u32
 /// Puts the lines of the act that was fetched last into a buffer.
 #[unsafe(no_mangle)]
 pub extern "C" fn yt_adapter_lines(alloc: Global, adapter: &mut YtAdapter, out: &mut [u32]) -> u32
-    ensures none { adapter.old.inner.value ≡ None → (result ≡ YT_NONE) × (out.new ≡ out.old) }
+    ensures none { IsEmpty adapter.old → (result ≡ YT_NONE) × (out.new ≡ out.old) }
     ensures same { adapter.new.inner.value ≡ adapter.old.inner.value }
-    ensures puts { IfSome adapter.old.inner.value (λ a. PutsPart (lines_of a.act) result out.old out.new) }
+    ensures puts { IfFull adapter.old (λ a. PutsPart (lines_of a.act) result out.old out.new) }
 {
     let Some(held) = take_out(alloc, adapter) else {
         return YT_NONE;
@@ -241,9 +242,9 @@ fn put_source(act: &Option<HostAct>, out: &mut [u8]) -> u32
 /// Puts the path of the source of the act that was fetched last into a buffer.
 #[unsafe(no_mangle)]
 pub extern "C" fn yt_adapter_source(alloc: Global, adapter: &mut YtAdapter, out: &mut [u8]) -> u32
-    ensures none { adapter.old.inner.value ≡ None → (result ≡ YT_NONE) × (out.new ≡ out.old) }
+    ensures none { IsEmpty adapter.old → (result ≡ YT_NONE) × (out.new ≡ out.old) }
     ensures same { adapter.new.inner.value ≡ adapter.old.inner.value }
-    ensures puts { IfSome adapter.old.inner.value (λ a. PutsPart (source_of a.act) result out.old out.new) }
+    ensures puts { IfFull adapter.old (λ a. PutsPart (source_of a.act) result out.old out.new) }
 {
     let Some(held) = take_out(alloc, adapter) else {
         return YT_NONE;
@@ -265,9 +266,9 @@ fn put_name(act: &Option<HostAct>, out: &mut [u8]) -> u32
 /// Puts the name of the variable of the act that was fetched last into a buffer.
 #[unsafe(no_mangle)]
 pub extern "C" fn yt_adapter_name(alloc: Global, adapter: &mut YtAdapter, out: &mut [u8]) -> u32
-    ensures none { adapter.old.inner.value ≡ None → (result ≡ YT_NONE) × (out.new ≡ out.old) }
+    ensures none { IsEmpty adapter.old → (result ≡ YT_NONE) × (out.new ≡ out.old) }
     ensures same { adapter.new.inner.value ≡ adapter.old.inner.value }
-    ensures puts { IfSome adapter.old.inner.value (λ a. PutsPart (variable_of a.act) result out.old out.new) }
+    ensures puts { IfFull adapter.old (λ a. PutsPart (variable_of a.act) result out.old out.new) }
 {
     let Some(held) = take_out(alloc, adapter) else {
         return YT_NONE;
@@ -289,9 +290,9 @@ fn put_value(act: &Option<HostAct>, out: &mut [u8]) -> u32
 /// Puts the value of the variable of the act that was fetched last into a buffer.
 #[unsafe(no_mangle)]
 pub extern "C" fn yt_adapter_value(alloc: Global, adapter: &mut YtAdapter, out: &mut [u8]) -> u32
-    ensures none { adapter.old.inner.value ≡ None → (result ≡ YT_NONE) × (out.new ≡ out.old) }
+    ensures none { IsEmpty adapter.old → (result ≡ YT_NONE) × (out.new ≡ out.old) }
     ensures same { adapter.new.inner.value ≡ adapter.old.inner.value }
-    ensures puts { IfSome adapter.old.inner.value (λ a. PutsPart (value_of a.act) result out.old out.new) }
+    ensures puts { IfFull adapter.old (λ a. PutsPart (value_of a.act) result out.old out.new) }
 {
     let Some(held) = take_out(alloc, adapter) else {
         return YT_NONE;

@@ -3,7 +3,7 @@
 //! Bytes of a client come in; answers and events to be written go out. What an adapter is and does is in `dap_adapter`, and
 //! what the debuggee shows in `dap_live`; each export has the clauses of its function there. Only the adapter behind the
 //! handle and what the caller lends for an answer are touched.
-ghost use Rattle.std.specs.Prelude.{◌≡◌, ◌⊎◌, ◌<◌, ◌≤◌, ◌++◌, [], length, drop, take, IfOk, IfErr, OnOk, OnErr, IfSome, IsSome, Some, None, true, false, is_some, vec_len, vec_capacity, if◌then◌else◌, ◌+◌};
+ghost use Rattle.std.specs.Prelude.{◌≡◌, ◌⊎◌, ◌<◌, ◌≤◌, ◌++◌, [], length, drop, take, IfOk, IfErr, OnOk, OnErr, IfSome, IsSome, Some, None, true, false, is_some, vec_len, vec_capacity, if◌then◌else◌, ◌+◌, ◌≢◌};
 ghost use Rattle.dap_frame.specs.Settings.{first_outside};
 ghost use Rattle.dap_decision.specs.Table.{is_phase};
 ghost use Rattle.dap_decision.specs.declared.phase.Phase.TheVariants.{Asked};
@@ -14,9 +14,11 @@ ghost use Rattle.dap_adapter.specs.StandsFor.{StandsFor};
 ghost use Rattle.dap_live.specs.LiveShown.{fresh_live};
 ghost use Rattle.dap_c_adapter.specs.AdapterCalls.{AdapterTakes, RefusesAdapterPiece, IsAdapterAsBefore, AdapterTurns, RefusesTurn, frame_so_far, IsCodeOfOpen, IsOpenedOver, HasNoSources, HasNothing, KeepsActs};
 ghost use Rattle.dap_c_adapter.specs.AdapterFaults.{adapter_number, IsAdapterFaultFound};
-ghost use Rattle.dap_c_parts.specs.Behind.{FromTo};
 ghost use Rattle.dap_c_parts.specs.Finds.{FindsNothing};
-ghost use Rattle.dap_c_parts.specs.Limited.{settings_of};
+ghost use Rattle.dap_c_parts.specs.Limited.{settings_of, AreOutOfRange};
+ghost use Rattle.dap_c_parts.specs.Buffer.{StaysIfSmall};
+ghost use Rattle.dap_c_adapter.specs.AdapterBehind.{IsFull, IsEmpty, IfFull, FromTo, FromEmpty};
+ghost use Rattle.dap_c_adapter.specs.AdapterExports.{IsFreshWithin, OpensOver, KeepsAdapter, KeepsLimits, KeepsTables, KeepsFrame, LeavesBytes, TakesPiece, RefusesPiece, LeavesDebuggee, LeavesUnasked, LeavesNothing, LatchesFault, MakesTurn, StaysOpen, MakesNoTurn, WritesNothing, IdlesIfNoneWaits, LatchesAndTells, PutsBytes, PutsFrame, HasNoFrame};
 
 use crate::adapter_handle::YtAdapter;
 use crate::held_adapter::HeldAdapter;
@@ -98,18 +100,18 @@ pub extern "C" fn yt_adapter_open(
     limits: &YtLimits,
     base: &[u8],
 ) -> u32
-    ensures open { result ≡ YT_OK → IsSome adapter.new.inner.value }
-    ensures closed { (result ≡ YT_OK → ⊥) → adapter.new.inner.value ≡ None }
-    ensures session { IfSome adapter.new.inner.value (λ a. a.adapter.session ≡ fresh_session (settings_of limits.now)) }
-    ensures fault { IfSome adapter.new.inner.value (λ a. a.adapter.fault ≡ None) }
-    ensures debuggee { IfSome adapter.new.inner.value (λ a. IsOpenedOver (json_of base.now) a.adapter.debuggee) }
-    ensures stands { IfSome adapter.new.inner.value (λ a. StandsFor a.adapter [] []) }
-    ensures nothing { IfSome adapter.new.inner.value HasNothing }
-    ensures refused { result ≡ YT_BAD_LIMITS → IsSome (first_outside (settings_of limits.now)) }
-    ensures out_of_range { IsSome (first_outside (settings_of limits.now)) → result ≡ YT_BAD_LIMITS }
+    ensures open { result ≡ YT_OK → IsFull adapter.new }
+    ensures closed { result ≢ YT_OK → IsEmpty adapter.new }
+    ensures session { IfFull adapter.new (IsFreshWithin limits.now) }
+    ensures fault { IfFull adapter.new (λ a. a.adapter.fault ≡ None) }
+    ensures debuggee { IfFull adapter.new (OpensOver base.now) }
+    ensures stands { IfFull adapter.new (λ a. StandsFor a.adapter [] []) }
+    ensures nothing { IfFull adapter.new HasNothing }
+    ensures refused { result ≡ YT_BAD_LIMITS → AreOutOfRange limits.now }
+    ensures out_of_range { AreOutOfRange limits.now → result ≡ YT_BAD_LIMITS }
     ensures in_range { result ≡ YT_OK → first_outside (settings_of limits.now) ≡ None }
     ensures no_recording { result ≡ YT_BAD_RECORDING → HasNoSources (json_of base.now) }
-    ensures codes { (result ≡ YT_OK → ⊥) → IsCodeOfOpen result }
+    ensures codes { result ≢ YT_OK → IsCodeOfOpen result }
 {
     take_out(alloc, adapter);
     match opened(alloc, limits, base) {
@@ -124,7 +126,7 @@ pub extern "C" fn yt_adapter_open(
 /// Lets go what the handle held.
 #[unsafe(no_mangle)]
 pub extern "C" fn yt_adapter_free(alloc: Global, adapter: &mut YtAdapter)
-    ensures { adapter.new.inner.value ≡ None }
+    ensures { IsEmpty adapter.new }
 {
     drop(take_out(alloc, adapter));
 }
@@ -254,26 +256,26 @@ pub extern "C" fn yt_adapter_take(
     piece: &[u8],
     found: &mut YtFound,
 ) -> u32
-    ensures none { adapter.old.inner.value ≡ None → (result ≡ YT_NONE) × (adapter.new.inner.value ≡ None) × (found.new ≡ found.old) }
-    ensures held { IsSome adapter.old.inner.value → IsSome adapter.new.inner.value }
-    ensures takes { FromTo adapter.old.inner.value adapter.new.inner.value (λ a b. result ≡ YT_OK → AdapterTakes a b piece.now found.new) }
+    ensures none { FromEmpty adapter.old adapter.new (result ≡ YT_NONE) (found.new ≡ found.old) }
+    ensures held { IsFull adapter.old → IsFull adapter.new }
+    ensures takes { FromTo adapter.old adapter.new (TakesPiece piece.now result found.new) }
     ensures progress { result ≡ YT_OK → 0 < length piece.now → 0 < found.new.used }
     ensures within { result ≡ YT_OK → found.new.used ≤ length piece.now }
-    ensures open { FromTo adapter.old.inner.value adapter.new.inner.value (λ a b. result ≡ YT_OK → b.adapter.fault ≡ None) }
-    ensures limits { FromTo adapter.old.inner.value adapter.new.inner.value (λ a b. b.adapter.session.limits ≡ a.adapter.session.limits) }
-    ensures refuses { FromTo adapter.old.inner.value adapter.new.inner.value (λ a b. (result ≡ YT_OK → ⊥) → IsAdapterAsBefore a b result ⊎ RefusesAdapterPiece a b piece.now result found.new) }
-    ensures tables { FromTo adapter.old.inner.value adapter.new.inner.value (λ a b. (result ≡ YT_OK → ⊥) → b.adapter.session ≡ a.adapter.session) }
+    ensures open { FromTo adapter.old adapter.new (λ a b. result ≡ YT_OK → b.adapter.fault ≡ None) }
+    ensures limits { FromTo adapter.old adapter.new KeepsLimits }
+    ensures refuses { FromTo adapter.old adapter.new (RefusesPiece piece.now result found.new) }
+    ensures tables { FromTo adapter.old adapter.new (λ a b. result ≢ YT_OK → KeepsTables a b) }
 
     // The debuggee is as it was, unless memory is refused to a response that lets it start.
-    ensures debuggee { FromTo adapter.old.inner.value adapter.new.inner.value (λ a b. (result ≡ YT_OK → ⊥) → (result ≡ YT_NO_MEMORY → ⊥) → b.adapter.debuggee ≡ a.adapter.debuggee) }
-    ensures unasked { FromTo adapter.old.inner.value adapter.new.inner.value (λ a b. is_phase Asked a.adapter.session.phase ≡ false → (result ≡ YT_OK → ⊥) → b.adapter.debuggee ≡ a.adapter.debuggee) }
+    ensures debuggee { FromTo adapter.old adapter.new (LeavesDebuggee result) }
+    ensures unasked { FromTo adapter.old adapter.new (LeavesUnasked result) }
 
     // What there is to fetch; where it is refused, nothing.
-    ensures length { FromTo adapter.old.inner.value adapter.new.inner.value (λ a b. found.new.bytes ≡ length b.bytes.items) }
-    ensures nothing { FromTo adapter.old.inner.value adapter.new.inner.value (λ a b. (result ≡ YT_OK → ⊥) → (b.bytes.items ≡ []) × (b.whole ≡ false) × FindsNothing found.new) }
-    ensures acts { FromTo adapter.old.inner.value adapter.new.inner.value (λ a b. KeepsActs a b) }
-    ensures gathered { FromTo adapter.old.inner.value adapter.new.inner.value (λ a b. b.variables ≡ a.variables) }
-    ensures latched { (fault : TheFault) → FromTo adapter.old.inner.value adapter.new.inner.value (λ a b. a.adapter.fault ≡ Some fault → ((result ≡ YT_NO_MEMORY) ⊎ (result ≡ adapter_number fault)) × (b.adapter ≡ a.adapter)) }
+    ensures length { FromTo adapter.old adapter.new (LeavesBytes found.new.bytes) }
+    ensures nothing { FromTo adapter.old adapter.new (LeavesNothing result found.new) }
+    ensures acts { FromTo adapter.old adapter.new KeepsActs }
+    ensures gathered { FromTo adapter.old adapter.new (λ a b. b.variables ≡ a.variables) }
+    ensures latched { FromTo adapter.old adapter.new (LatchesFault result) }
 {
     let Some(mut held) = take_out(alloc, adapter) else {
         return YT_NONE;
@@ -337,23 +339,23 @@ pub extern "C" fn yt_adapter_turn(
     adapter: &mut YtAdapter,
     found: &mut YtFound,
 ) -> u32
-    ensures none { adapter.old.inner.value ≡ None → (result ≡ YT_NONE) × (adapter.new.inner.value ≡ None) × (found.new ≡ found.old) }
-    ensures held { IsSome adapter.old.inner.value → IsSome adapter.new.inner.value }
-    ensures turns { FromTo adapter.old.inner.value adapter.new.inner.value (λ a b. (result ≡ YT_OK) ⊎ (result ≡ YT_IDLE) → AdapterTurns a b result) }
-    ensures length { FromTo adapter.old.inner.value adapter.new.inner.value (λ a b. found.new.bytes ≡ length b.bytes.items) }
-    ensures open { FromTo adapter.old.inner.value adapter.new.inner.value (λ a b. (result ≡ YT_OK) ⊎ (result ≡ YT_IDLE) → b.adapter.fault ≡ None) }
-    ensures limits { FromTo adapter.old.inner.value adapter.new.inner.value (λ a b. b.adapter.session.limits ≡ a.adapter.session.limits) }
-    ensures refuses { FromTo adapter.old.inner.value adapter.new.inner.value (λ a b. (result ≡ YT_OK → ⊥) → (result ≡ YT_IDLE → ⊥) → RefusesTurn a b result found.new) }
-    ensures tables { FromTo adapter.old.inner.value adapter.new.inner.value (λ a b. (result ≡ YT_OK → ⊥) → b.adapter.session ≡ a.adapter.session) }
-    ensures nothing { FromTo adapter.old.inner.value adapter.new.inner.value (λ a b. (result ≡ YT_OK → ⊥) → (b.bytes.items ≡ []) × FindsNothing found.new) }
-    ensures latched { (fault : TheFault) → FromTo adapter.old.inner.value adapter.new.inner.value (λ a b. a.adapter.fault ≡ Some fault → (result ≡ adapter_number fault) × IsAdapterFaultFound fault found.new × (b.adapter ≡ a.adapter)) }
+    ensures none { FromEmpty adapter.old adapter.new (result ≡ YT_NONE) (found.new ≡ found.old) }
+    ensures held { IsFull adapter.old → IsFull adapter.new }
+    ensures turns { FromTo adapter.old adapter.new (MakesTurn result) }
+    ensures length { FromTo adapter.old adapter.new (LeavesBytes found.new.bytes) }
+    ensures open { FromTo adapter.old adapter.new (StaysOpen result) }
+    ensures limits { FromTo adapter.old adapter.new KeepsLimits }
+    ensures refuses { FromTo adapter.old adapter.new (MakesNoTurn result found.new) }
+    ensures tables { FromTo adapter.old adapter.new (λ a b. result ≢ YT_OK → KeepsTables a b) }
+    ensures nothing { FromTo adapter.old adapter.new (WritesNothing result found.new) }
+    ensures latched { FromTo adapter.old adapter.new (LatchesAndTells result found.new) }
 
     // Where no request waits, memory is not asked for, and nothing changes.
-    ensures idle { FromTo adapter.old.inner.value adapter.new.inner.value (λ a b. a.adapter.fault ≡ None → oldest a.adapter.session.kept ≡ None → result ≡ YT_IDLE) }
-    ensures unchanged { FromTo adapter.old.inner.value adapter.new.inner.value (λ a b. result ≡ YT_IDLE → b.adapter ≡ a.adapter) }
-    ensures frame { FromTo adapter.old.inner.value adapter.new.inner.value (λ a b. (b.frame ≡ a.frame) × (b.whole ≡ a.whole)) }
-    ensures acts { FromTo adapter.old.inner.value adapter.new.inner.value (λ a b. KeepsActs a b) }
-    ensures gathered { FromTo adapter.old.inner.value adapter.new.inner.value (λ a b. b.variables ≡ a.variables) }
+    ensures idle { FromTo adapter.old adapter.new (IdlesIfNoneWaits result) }
+    ensures unchanged { result ≡ YT_IDLE → FromTo adapter.old adapter.new KeepsAdapter }
+    ensures frame { FromTo adapter.old adapter.new KeepsFrame }
+    ensures acts { FromTo adapter.old adapter.new KeepsActs }
+    ensures gathered { FromTo adapter.old adapter.new (λ a b. b.variables ≡ a.variables) }
 {
     let Some(mut held) = take_out(alloc, adapter) else {
         return YT_NONE;
@@ -366,11 +368,11 @@ pub extern "C" fn yt_adapter_turn(
 /// Puts what is to be written into a buffer.
 #[unsafe(no_mangle)]
 pub extern "C" fn yt_adapter_bytes(alloc: Global, adapter: &mut YtAdapter, out: &mut [u8]) -> u32
-    ensures none { adapter.old.inner.value ≡ None → (result ≡ YT_NONE) × (out.new ≡ out.old) }
+    ensures none { IsEmpty adapter.old → (result ≡ YT_NONE) × (out.new ≡ out.old) }
     ensures same { adapter.new.inner.value ≡ adapter.old.inner.value }
-    ensures bytes { IfSome adapter.old.inner.value (λ a. result ≡ YT_OK → out.new ≡ a.bytes.items ++ drop (length a.bytes.items) out.old) }
-    ensures small { IfSome adapter.old.inner.value (λ a. result ≡ YT_SMALL → (length out.old < length a.bytes.items) × (out.new ≡ out.old)) }
-    ensures codes { IsSome adapter.old.inner.value → (result ≡ YT_SMALL → ⊥) → result ≡ YT_OK }
+    ensures bytes { IfFull adapter.old (λ a. result ≡ YT_OK → PutsBytes a out.old out.new) }
+    ensures small { IfFull adapter.old (λ a. StaysIfSmall a.bytes.items result out.old out.new) }
+    ensures codes { IsFull adapter.old → result ≢ YT_SMALL → result ≡ YT_OK }
 {
     let Some(held) = take_out(alloc, adapter) else {
         return YT_NONE;
@@ -397,12 +399,12 @@ fn put_frame(held: &HeldAdapter, out: &mut [u8]) -> u32
 /// `YT_NOTHING` where it delivered none.
 #[unsafe(no_mangle)]
 pub extern "C" fn yt_adapter_frame(alloc: Global, adapter: &mut YtAdapter, out: &mut [u8]) -> u32
-    ensures none { adapter.old.inner.value ≡ None → (result ≡ YT_NONE) × (out.new ≡ out.old) }
+    ensures none { IsEmpty adapter.old → (result ≡ YT_NONE) × (out.new ≡ out.old) }
     ensures same { adapter.new.inner.value ≡ adapter.old.inner.value }
-    ensures frame { IfSome adapter.old.inner.value (λ a. result ≡ YT_OK → (a.whole ≡ true) × (out.new ≡ a.frame.items ++ drop (length a.frame.items) out.old)) }
-    ensures small { IfSome adapter.old.inner.value (λ a. result ≡ YT_SMALL → (length out.old < length a.frame.items) × (out.new ≡ out.old)) }
-    ensures nothing { IfSome adapter.old.inner.value (λ a. result ≡ YT_NOTHING → (a.whole ≡ false) × (out.new ≡ out.old)) }
-    ensures codes { IsSome adapter.old.inner.value → (result ≡ YT_OK → ⊥) → (result ≡ YT_SMALL → ⊥) → result ≡ YT_NOTHING }
+    ensures frame { IfFull adapter.old (λ a. result ≡ YT_OK → PutsFrame a out.old out.new) }
+    ensures small { IfFull adapter.old (λ a. StaysIfSmall a.frame.items result out.old out.new) }
+    ensures nothing { IfFull adapter.old (λ a. result ≡ YT_NOTHING → HasNoFrame a out.old out.new) }
+    ensures codes { IsFull adapter.old → result ≢ YT_OK → result ≢ YT_SMALL → result ≡ YT_NOTHING }
 {
     let Some(held) = take_out(alloc, adapter) else {
         return YT_NONE;

@@ -3,6 +3,8 @@ ghost use Rattle.std.specs.Prelude.{◌≡◌, length, IfSome, IsSome, Some, Non
 ghost use Rattle.dap_plan.specs.declared.fault.AdapterFault.{AdapterFault as TheFault};
 ghost use Rattle.dap_tables.specs.References.{target_of};
 ghost use Rattle.dap_c_adapter.specs.AdapterSeen.{IsAdapterState, IsWithin, IsTarget, phase_number, kind_number};
+ghost use Rattle.dap_c_adapter.specs.AdapterBehind.{IsFull, IsEmpty, IfFull};
+ghost use Rattle.dap_c_adapter.specs.AdapterExports.{IfClosed, IsStateOf, target_at, FindsTarget, FindsNoTarget};
 
 use crate::adapter_handle::YtAdapter;
 use crate::held_adapter::HeldAdapter;
@@ -87,12 +89,12 @@ pub extern "C" fn yt_adapter_state(
     adapter: &mut YtAdapter,
     state: &mut YtAdapterSeen,
 ) -> u32
-    ensures none { adapter.old.inner.value ≡ None → (result ≡ YT_NONE) × (state.new ≡ state.old) }
+    ensures none { IsEmpty adapter.old → (result ≡ YT_NONE) × (state.new ≡ state.old) }
     ensures same { adapter.new.inner.value ≡ adapter.old.inner.value }
-    ensures ok { IsSome adapter.old.inner.value → result ≡ YT_OK }
-    ensures is { IfSome adapter.old.inner.value (λ a. IsAdapterState state.new a.adapter.session (length a.adapter.intake.held)) }
-    ensures within { IfSome adapter.old.inner.value (λ a. IsWithin state.new a.adapter.session.limits) }
-    ensures closed { (fault : TheFault) → IfSome adapter.old.inner.value (λ a. a.adapter.fault ≡ Some fault → state.new.held ≡ 0) }
+    ensures ok { IsFull adapter.old → result ≡ YT_OK }
+    ensures is { IfFull adapter.old (IsStateOf state.new) }
+    ensures within { IfFull adapter.old (λ a. IsWithin state.new a.adapter.session.limits) }
+    ensures closed { IfFull adapter.old (λ a. IfClosed a (state.new.held ≡ 0)) }
 {
     let Some(held) = take_out(alloc, adapter) else {
         return YT_NONE;
@@ -128,11 +130,11 @@ pub extern "C" fn yt_adapter_target(
     number: u32,
     target: &mut YtTarget,
 ) -> u32
-    ensures none { adapter.old.inner.value ≡ None → (result ≡ YT_NONE) × (target.new ≡ target.old) }
+    ensures none { IsEmpty adapter.old → (result ≡ YT_NONE) × (target.new ≡ target.old) }
     ensures same { adapter.new.inner.value ≡ adapter.old.inner.value }
-    ensures target { IfSome adapter.old.inner.value (λ a. result ≡ YT_OK → IfSome (target_of a.adapter.session.references number) (IsTarget target.new)) }
-    ensures some { IfSome adapter.old.inner.value (λ a. result ≡ YT_OK → IsSome (target_of a.adapter.session.references number)) }
-    ensures nothing { IfSome adapter.old.inner.value (λ a. (result ≡ YT_OK → ⊥) → (result ≡ YT_NOTHING) × (target_of a.adapter.session.references number ≡ None) × (target.new ≡ target.old)) }
+    ensures target { IfFull adapter.old (FindsTarget number result target.new) }
+    ensures some { IfFull adapter.old (λ a. result ≡ YT_OK → IsSome (target_at number a)) }
+    ensures nothing { IfFull adapter.old (FindsNoTarget number result target.old target.new) }
 {
     let Some(held) = take_out(alloc, adapter) else {
         return YT_NONE;

@@ -3,7 +3,7 @@
 //! What does not happen in the state that the debuggee is in, or is out of its range, is dropped, and the code says why. What
 //! is told is in the debuggee's mail for one poll (`Tells`); what is shown then is what the host told. Only the adapter behind
 //! the handle and what the caller lends for an answer are touched.
-ghost use Rattle.std.specs.Prelude.{◌≡◌, ◌⊎◌, ◌≤◌, ◌++◌, ◌∷◌, IfOk, IfErr, IfSome, IsSome, IsOk, IsUtf8, Some, None, Ok, Err, false, [], length, if◌then◌else◌};
+ghost use Rattle.std.specs.Prelude.{◌≡◌, ◌⊎◌, ◌≤◌, ◌++◌, ◌∷◌, IfOk, IfErr, IfSome, IsSome, IsOk, IsUtf8, Some, None, Ok, Err, false, [], length, if◌then◌else◌, ◌≢◌};
 ghost use Rattle.dap_json.specs.Read.{json_of};
 ghost use Rattle.dap_recording.specs.Reading.{file_sources};
 ghost use Rattle.dap_plan.specs.Polling.{has_debuggee};
@@ -11,7 +11,8 @@ ghost use Rattle.dap_plan.specs.declared.fault.AdapterFault.{AdapterFault as The
 ghost use Rattle.dap_c_adapter.specs.AdapterCalls.{AdapterSaw, RefusesPoll, Tells, IsStop, AreSources, IsCodeOfText, IsCodeOfRecording, IsToldCode, IsNoRecording, HasNoSources, IsFirstOf, KeepsActs, category_of, mail_number, variable_told};
 ghost use Rattle.dap_c_adapter.specs.AdapterFaults.{adapter_number, IsAdapterFaultFound};
 ghost use Rattle.dap_live.specs.declared.mail.Coming.TheVariants as said;
-ghost use Rattle.dap_c_parts.specs.Behind.{FromTo};
+ghost use Rattle.dap_c_adapter.specs.AdapterBehind.{IsFull, IsEmpty, FromTo, FromEmpty};
+ghost use Rattle.dap_c_adapter.specs.AdapterExports.{KeepsLimits, KeepsFrame, KeepsAllElse, KeepsGathered, LeavesBytes, LatchesAndTells, Outputs, TellsStop, TellsLearned, TellsSources, TellsGoingOn, TellsExit, TellsVariables, LatchesUnlessText, StaysOpenApart, AcceptsText, Gathers};
 
 use crate::adapter::{adapter_code, adapter_fault_found, only_bytes};
 use crate::adapter_handle::YtAdapter;
@@ -111,17 +112,17 @@ fn tell_handle(
     found: &mut YtFound,
 ) -> u32
     requires { IfErr coming IsCodeOfText }
-    ensures none { adapter.old.inner.value ≡ None → (result ≡ YT_NONE) × (adapter.new.inner.value ≡ None) × (found.new ≡ found.old) }
-    ensures held { IsSome adapter.old.inner.value → IsSome adapter.new.inner.value }
-    ensures tells { FromTo adapter.old.inner.value adapter.new.inner.value (λ a b. Tells coming a b result found.new) }
-    ensures latched { (fault : TheFault) → FromTo adapter.old.inner.value adapter.new.inner.value (λ a b. a.adapter.fault ≡ Some fault → ((result ≡ adapter_number fault) ⊎ IsCodeOfText result) × (b.adapter ≡ a.adapter)) }
-    ensures apart { FromTo adapter.old.inner.value adapter.new.inner.value (λ a b. a.adapter.fault ≡ None → has_debuggee a.adapter.session.phase ≡ false → b.adapter.fault ≡ None) }
-    ensures length { FromTo adapter.old.inner.value adapter.new.inner.value (λ a b. found.new.bytes ≡ length b.bytes.items) }
+    ensures none { FromEmpty adapter.old adapter.new (result ≡ YT_NONE) (found.new ≡ found.old) }
+    ensures held { IsFull adapter.old → IsFull adapter.new }
+    ensures tells { FromTo adapter.old adapter.new (λ a b. Tells coming a b result found.new) }
+    ensures latched { FromTo adapter.old adapter.new (LatchesUnlessText result) }
+    ensures apart { FromTo adapter.old adapter.new StaysOpenApart }
+    ensures length { FromTo adapter.old adapter.new (LeavesBytes found.new.bytes) }
     ensures why { (result ≡ YT_BAD_ARGUMENTS) ⊎ (result ≡ YT_BAD_RECORDING) → coming ≡ Err result }
-    ensures limits { FromTo adapter.old.inner.value adapter.new.inner.value (λ a b. b.adapter.session.limits ≡ a.adapter.session.limits) }
-    ensures frame { FromTo adapter.old.inner.value adapter.new.inner.value (λ a b. (b.frame ≡ a.frame) × (b.whole ≡ a.whole)) }
-    ensures acts { FromTo adapter.old.inner.value adapter.new.inner.value (λ a b. KeepsActs a b) }
-    ensures gathered { FromTo adapter.old.inner.value adapter.new.inner.value (λ a b. b.variables ≡ a.variables) }
+    ensures limits { FromTo adapter.old adapter.new KeepsLimits }
+    ensures frame { FromTo adapter.old adapter.new KeepsFrame }
+    ensures acts { FromTo adapter.old adapter.new KeepsActs }
+    ensures gathered { FromTo adapter.old adapter.new (λ a b. b.variables ≡ a.variables) }
 {
     let Some(mut held) = take_out(alloc, adapter) else {
         return YT_NONE;
@@ -229,17 +230,17 @@ pub extern "C" fn yt_adapter_output(
     output: &[u8],
     found: &mut YtFound,
 ) -> u32
-    ensures none { adapter.old.inner.value ≡ None → (result ≡ YT_NONE) × (adapter.new.inner.value ≡ None) × (found.new ≡ found.old) }
-    ensures held { IsSome adapter.old.inner.value → IsSome adapter.new.inner.value }
-    ensures tells { FromTo adapter.old.inner.value adapter.new.inner.value (λ a b. (given : _) × IfOk given (λ told. told ≡ said.Output (category_of category) output.now) × Tells given a b result found.new) }
-    ensures latched { (fault : TheFault) → FromTo adapter.old.inner.value adapter.new.inner.value (λ a b. a.adapter.fault ≡ Some fault → ((result ≡ adapter_number fault) ⊎ IsCodeOfText result) × (b.adapter ≡ a.adapter)) }
-    ensures apart { FromTo adapter.old.inner.value adapter.new.inner.value (λ a b. a.adapter.fault ≡ None → has_debuggee a.adapter.session.phase ≡ false → b.adapter.fault ≡ None) }
-    ensures length { FromTo adapter.old.inner.value adapter.new.inner.value (λ a b. found.new.bytes ≡ length b.bytes.items) }
-    ensures wanted { category ≤ 2 → IsUtf8 output.now → (result ≡ YT_BAD_ARGUMENTS → ⊥) × (result ≡ YT_BAD_RECORDING → ⊥) }
-    ensures limits { FromTo adapter.old.inner.value adapter.new.inner.value (λ a b. b.adapter.session.limits ≡ a.adapter.session.limits) }
-    ensures frame { FromTo adapter.old.inner.value adapter.new.inner.value (λ a b. (b.frame ≡ a.frame) × (b.whole ≡ a.whole)) }
-    ensures acts { FromTo adapter.old.inner.value adapter.new.inner.value (λ a b. KeepsActs a b) }
-    ensures gathered { FromTo adapter.old.inner.value adapter.new.inner.value (λ a b. b.variables ≡ a.variables) }
+    ensures none { FromEmpty adapter.old adapter.new (result ≡ YT_NONE) (found.new ≡ found.old) }
+    ensures held { IsFull adapter.old → IsFull adapter.new }
+    ensures tells { FromTo adapter.old adapter.new (Outputs category output.now result found.new) }
+    ensures latched { FromTo adapter.old adapter.new (LatchesUnlessText result) }
+    ensures apart { FromTo adapter.old adapter.new StaysOpenApart }
+    ensures length { FromTo adapter.old adapter.new (LeavesBytes found.new.bytes) }
+    ensures wanted { category ≤ 2 → IsUtf8 output.now → AcceptsText result }
+    ensures limits { FromTo adapter.old adapter.new KeepsLimits }
+    ensures frame { FromTo adapter.old adapter.new KeepsFrame }
+    ensures acts { FromTo adapter.old adapter.new KeepsActs }
+    ensures gathered { FromTo adapter.old adapter.new (λ a b. b.variables ≡ a.variables) }
 {
     tell_handle(alloc, adapter, output_given(alloc, category, output), found)
 }
@@ -256,18 +257,19 @@ pub extern "C" fn yt_adapter_stopped(
     later: bool,
     found: &mut YtFound,
 ) -> u32
-    ensures none { adapter.old.inner.value ≡ None → (result ≡ YT_NONE) × (adapter.new.inner.value ≡ None) × (found.new ≡ found.old) }
-    ensures held { IsSome adapter.old.inner.value → IsSome adapter.new.inner.value }
-    ensures tells { FromTo adapter.old.inner.value adapter.new.inner.value (λ a b. (given : _) × IfOk given (λ told. IsStop reason.now thread (json_of shows.now) later told) × Tells given a b result found.new) }
-    ensures latched { (fault : TheFault) → FromTo adapter.old.inner.value adapter.new.inner.value (λ a b. a.adapter.fault ≡ Some fault → ((result ≡ adapter_number fault) ⊎ IsCodeOfText result) × (b.adapter ≡ a.adapter)) }
-    ensures apart { FromTo adapter.old.inner.value adapter.new.inner.value (λ a b. a.adapter.fault ≡ None → has_debuggee a.adapter.session.phase ≡ false → b.adapter.fault ≡ None) }
-    ensures length { FromTo adapter.old.inner.value adapter.new.inner.value (λ a b. found.new.bytes ≡ length b.bytes.items) }
-    ensures wanted { IsUtf8 reason.now → result ≡ YT_BAD_ARGUMENTS → ⊥ }
+    ensures none { FromEmpty adapter.old adapter.new (result ≡ YT_NONE) (found.new ≡ found.old) }
+    ensures held { IsFull adapter.old → IsFull adapter.new }
+    ensures tells { FromTo adapter.old adapter.new 
+        (TellsStop reason.now thread shows.now later result found.new) }
+    ensures latched { FromTo adapter.old adapter.new (LatchesUnlessText result) }
+    ensures apart { FromTo adapter.old adapter.new StaysOpenApart }
+    ensures length { FromTo adapter.old adapter.new (LeavesBytes found.new.bytes) }
+    ensures wanted { IsUtf8 reason.now → result ≢ YT_BAD_ARGUMENTS }
     ensures no_recording { result ≡ YT_BAD_RECORDING → IsNoRecording (json_of shows.now) }
-    ensures limits { FromTo adapter.old.inner.value adapter.new.inner.value (λ a b. b.adapter.session.limits ≡ a.adapter.session.limits) }
-    ensures frame { FromTo adapter.old.inner.value adapter.new.inner.value (λ a b. (b.frame ≡ a.frame) × (b.whole ≡ a.whole)) }
-    ensures acts { FromTo adapter.old.inner.value adapter.new.inner.value (λ a b. KeepsActs a b) }
-    ensures gathered { FromTo adapter.old.inner.value adapter.new.inner.value (λ a b. b.variables ≡ a.variables) }
+    ensures limits { FromTo adapter.old adapter.new KeepsLimits }
+    ensures frame { FromTo adapter.old adapter.new KeepsFrame }
+    ensures acts { FromTo adapter.old adapter.new KeepsActs }
+    ensures gathered { FromTo adapter.old adapter.new (λ a b. b.variables ≡ a.variables) }
 {
     tell_handle(
         alloc,
@@ -285,17 +287,17 @@ pub extern "C" fn yt_adapter_continued(
     thread: i64,
     found: &mut YtFound,
 ) -> u32
-    ensures none { adapter.old.inner.value ≡ None → (result ≡ YT_NONE) × (adapter.new.inner.value ≡ None) × (found.new ≡ found.old) }
-    ensures held { IsSome adapter.old.inner.value → IsSome adapter.new.inner.value }
-    ensures tells { FromTo adapter.old.inner.value adapter.new.inner.value (λ a b. Tells (Ok (said.Continued thread)) a b result found.new) }
-    ensures latched { (fault : TheFault) → FromTo adapter.old.inner.value adapter.new.inner.value (λ a b. a.adapter.fault ≡ Some fault → ((result ≡ adapter_number fault) ⊎ IsCodeOfText result) × (b.adapter ≡ a.adapter)) }
-    ensures apart { FromTo adapter.old.inner.value adapter.new.inner.value (λ a b. a.adapter.fault ≡ None → has_debuggee a.adapter.session.phase ≡ false → b.adapter.fault ≡ None) }
-    ensures length { FromTo adapter.old.inner.value adapter.new.inner.value (λ a b. found.new.bytes ≡ length b.bytes.items) }
-    ensures wanted { (result ≡ YT_BAD_ARGUMENTS → ⊥) × (result ≡ YT_BAD_RECORDING → ⊥) }
-    ensures limits { FromTo adapter.old.inner.value adapter.new.inner.value (λ a b. b.adapter.session.limits ≡ a.adapter.session.limits) }
-    ensures frame { FromTo adapter.old.inner.value adapter.new.inner.value (λ a b. (b.frame ≡ a.frame) × (b.whole ≡ a.whole)) }
-    ensures acts { FromTo adapter.old.inner.value adapter.new.inner.value (λ a b. KeepsActs a b) }
-    ensures gathered { FromTo adapter.old.inner.value adapter.new.inner.value (λ a b. b.variables ≡ a.variables) }
+    ensures none { FromEmpty adapter.old adapter.new (result ≡ YT_NONE) (found.new ≡ found.old) }
+    ensures held { IsFull adapter.old → IsFull adapter.new }
+    ensures tells { FromTo adapter.old adapter.new (TellsGoingOn thread result found.new) }
+    ensures latched { FromTo adapter.old adapter.new (LatchesUnlessText result) }
+    ensures apart { FromTo adapter.old adapter.new StaysOpenApart }
+    ensures length { FromTo adapter.old adapter.new (LeavesBytes found.new.bytes) }
+    ensures wanted { AcceptsText result }
+    ensures limits { FromTo adapter.old adapter.new KeepsLimits }
+    ensures frame { FromTo adapter.old adapter.new KeepsFrame }
+    ensures acts { FromTo adapter.old adapter.new KeepsActs }
+    ensures gathered { FromTo adapter.old adapter.new (λ a b. b.variables ≡ a.variables) }
 {
     tell_handle(alloc, adapter, Ok(Coming::Continued { thread }), found)
 }
@@ -308,17 +310,17 @@ pub extern "C" fn yt_adapter_exited(
     code: i32,
     found: &mut YtFound,
 ) -> u32
-    ensures none { adapter.old.inner.value ≡ None → (result ≡ YT_NONE) × (adapter.new.inner.value ≡ None) × (found.new ≡ found.old) }
-    ensures held { IsSome adapter.old.inner.value → IsSome adapter.new.inner.value }
-    ensures tells { FromTo adapter.old.inner.value adapter.new.inner.value (λ a b. Tells (Ok (said.Exited code)) a b result found.new) }
-    ensures latched { (fault : TheFault) → FromTo adapter.old.inner.value adapter.new.inner.value (λ a b. a.adapter.fault ≡ Some fault → ((result ≡ adapter_number fault) ⊎ IsCodeOfText result) × (b.adapter ≡ a.adapter)) }
-    ensures apart { FromTo adapter.old.inner.value adapter.new.inner.value (λ a b. a.adapter.fault ≡ None → has_debuggee a.adapter.session.phase ≡ false → b.adapter.fault ≡ None) }
-    ensures length { FromTo adapter.old.inner.value adapter.new.inner.value (λ a b. found.new.bytes ≡ length b.bytes.items) }
-    ensures wanted { (result ≡ YT_BAD_ARGUMENTS → ⊥) × (result ≡ YT_BAD_RECORDING → ⊥) }
-    ensures limits { FromTo adapter.old.inner.value adapter.new.inner.value (λ a b. b.adapter.session.limits ≡ a.adapter.session.limits) }
-    ensures frame { FromTo adapter.old.inner.value adapter.new.inner.value (λ a b. (b.frame ≡ a.frame) × (b.whole ≡ a.whole)) }
-    ensures acts { FromTo adapter.old.inner.value adapter.new.inner.value (λ a b. KeepsActs a b) }
-    ensures gathered { FromTo adapter.old.inner.value adapter.new.inner.value (λ a b. b.variables ≡ a.variables) }
+    ensures none { FromEmpty adapter.old adapter.new (result ≡ YT_NONE) (found.new ≡ found.old) }
+    ensures held { IsFull adapter.old → IsFull adapter.new }
+    ensures tells { FromTo adapter.old adapter.new (TellsExit code result found.new) }
+    ensures latched { FromTo adapter.old adapter.new (LatchesUnlessText result) }
+    ensures apart { FromTo adapter.old adapter.new StaysOpenApart }
+    ensures length { FromTo adapter.old adapter.new (LeavesBytes found.new.bytes) }
+    ensures wanted { AcceptsText result }
+    ensures limits { FromTo adapter.old adapter.new KeepsLimits }
+    ensures frame { FromTo adapter.old adapter.new KeepsFrame }
+    ensures acts { FromTo adapter.old adapter.new KeepsActs }
+    ensures gathered { FromTo adapter.old adapter.new (λ a b. b.variables ≡ a.variables) }
 {
     tell_handle(alloc, adapter, Ok(Coming::Exited { code }), found)
 }
@@ -383,17 +385,18 @@ pub extern "C" fn yt_adapter_learned(
     holder: u64,
     found: &mut YtFound,
 ) -> u32
-    ensures none { adapter.old.inner.value ≡ None → (result ≡ YT_NONE) × (adapter.new.inner.value ≡ None) × (found.new ≡ found.old) }
-    ensures held { IsSome adapter.old.inner.value → IsSome adapter.new.inner.value }
-    ensures tells { FromTo adapter.old.inner.value adapter.new.inner.value (λ a b. (given : _) × IfOk given (λ told. told ≡ said.Learned asked.now (if known then Some value.now else None) (if has_parts then Some holder else None)) × Tells given a b result found.new) }
-    ensures latched { (fault : TheFault) → FromTo adapter.old.inner.value adapter.new.inner.value (λ a b. a.adapter.fault ≡ Some fault → ((result ≡ adapter_number fault) ⊎ IsCodeOfText result) × (b.adapter ≡ a.adapter)) }
-    ensures apart { FromTo adapter.old.inner.value adapter.new.inner.value (λ a b. a.adapter.fault ≡ None → has_debuggee a.adapter.session.phase ≡ false → b.adapter.fault ≡ None) }
-    ensures length { FromTo adapter.old.inner.value adapter.new.inner.value (λ a b. found.new.bytes ≡ length b.bytes.items) }
-    ensures wanted { IsUtf8 asked.now → IsUtf8 value.now → (result ≡ YT_BAD_ARGUMENTS → ⊥) × (result ≡ YT_BAD_RECORDING → ⊥) }
-    ensures limits { FromTo adapter.old.inner.value adapter.new.inner.value (λ a b. b.adapter.session.limits ≡ a.adapter.session.limits) }
-    ensures frame { FromTo adapter.old.inner.value adapter.new.inner.value (λ a b. (b.frame ≡ a.frame) × (b.whole ≡ a.whole)) }
-    ensures acts { FromTo adapter.old.inner.value adapter.new.inner.value (λ a b. KeepsActs a b) }
-    ensures gathered { FromTo adapter.old.inner.value adapter.new.inner.value (λ a b. b.variables ≡ a.variables) }
+    ensures none { FromEmpty adapter.old adapter.new (result ≡ YT_NONE) (found.new ≡ found.old) }
+    ensures held { IsFull adapter.old → IsFull adapter.new }
+    ensures tells { FromTo adapter.old adapter.new 
+        (TellsLearned asked.now value.now known has_parts holder result found.new) }
+    ensures latched { FromTo adapter.old adapter.new (LatchesUnlessText result) }
+    ensures apart { FromTo adapter.old adapter.new StaysOpenApart }
+    ensures length { FromTo adapter.old adapter.new (LeavesBytes found.new.bytes) }
+    ensures wanted { IsUtf8 asked.now → IsUtf8 value.now → AcceptsText result }
+    ensures limits { FromTo adapter.old adapter.new KeepsLimits }
+    ensures frame { FromTo adapter.old adapter.new KeepsFrame }
+    ensures acts { FromTo adapter.old adapter.new KeepsActs }
+    ensures gathered { FromTo adapter.old adapter.new (λ a b. b.variables ≡ a.variables) }
 {
     let holder = holder_given(has_parts, holder);
     let coming = value_given(alloc, asked, known, value, holder);
@@ -431,14 +434,14 @@ pub extern "C" fn yt_adapter_variable(
     has_parts: bool,
     holder: u64,
 ) -> u32
-    ensures none { adapter.old.inner.value ≡ None → (result ≡ YT_NONE) × (adapter.new.inner.value ≡ None) }
-    ensures held { IsSome adapter.old.inner.value → IsSome adapter.new.inner.value }
-    ensures code { IsSome adapter.old.inner.value → (result ≡ YT_OK → ⊥) → IsCodeOfText result }
-    ensures same { FromTo adapter.old.inner.value adapter.new.inner.value (λ a b. (b.adapter ≡ a.adapter) × (b.bytes ≡ a.bytes) × (b.frame ≡ a.frame) × (b.whole ≡ a.whole)) }
-    ensures acts { FromTo adapter.old.inner.value adapter.new.inner.value (λ a b. KeepsActs a b) }
-    ensures gathers { FromTo adapter.old.inner.value adapter.new.inner.value (λ a b. result ≡ YT_OK → b.variables.items ≡ a.variables.items ++ variable_told name.now value.now has_parts holder ∷ []) }
-    ensures refused { FromTo adapter.old.inner.value adapter.new.inner.value (λ a b. (result ≡ YT_OK → ⊥) → b.variables.items ≡ a.variables.items) }
-    ensures wanted { IsUtf8 name.now → IsUtf8 value.now → result ≡ YT_BAD_ARGUMENTS → ⊥ }
+    ensures none { IsEmpty adapter.old → (result ≡ YT_NONE) × IsEmpty adapter.new }
+    ensures held { IsFull adapter.old → IsFull adapter.new }
+    ensures code { IsFull adapter.old → result ≢ YT_OK → IsCodeOfText result }
+    ensures same { FromTo adapter.old adapter.new KeepsAllElse }
+    ensures acts { FromTo adapter.old adapter.new KeepsActs }
+    ensures gathers { Gathers adapter.old adapter.new name.now value.now has_parts holder result }
+    ensures refused { FromTo adapter.old adapter.new (λ a b. result ≢ YT_OK → KeepsGathered a b) }
+    ensures wanted { IsUtf8 name.now → IsUtf8 value.now → result ≢ YT_BAD_ARGUMENTS }
 {
     let Some(mut held) = take_out(alloc, adapter) else {
         return YT_NONE;
@@ -475,16 +478,16 @@ pub extern "C" fn yt_adapter_variables(
     holder: u64,
     found: &mut YtFound,
 ) -> u32
-    ensures none { adapter.old.inner.value ≡ None → (result ≡ YT_NONE) × (adapter.new.inner.value ≡ None) × (found.new ≡ found.old) }
-    ensures held { IsSome adapter.old.inner.value → IsSome adapter.new.inner.value }
-    ensures tells { FromTo adapter.old.inner.value adapter.new.inner.value (λ a b. Tells (Ok (said.Variables holder a.variables.items)) a b result found.new) }
-    ensures latched { (fault : TheFault) → FromTo adapter.old.inner.value adapter.new.inner.value (λ a b. a.adapter.fault ≡ Some fault → (result ≡ adapter_number fault) × IsAdapterFaultFound fault found.new × (b.adapter ≡ a.adapter)) }
-    ensures apart { FromTo adapter.old.inner.value adapter.new.inner.value (λ a b. a.adapter.fault ≡ None → has_debuggee a.adapter.session.phase ≡ false → b.adapter.fault ≡ None) }
-    ensures length { FromTo adapter.old.inner.value adapter.new.inner.value (λ a b. found.new.bytes ≡ length b.bytes.items) }
-    ensures limits { FromTo adapter.old.inner.value adapter.new.inner.value (λ a b. b.adapter.session.limits ≡ a.adapter.session.limits) }
-    ensures frame { FromTo adapter.old.inner.value adapter.new.inner.value (λ a b. (b.frame ≡ a.frame) × (b.whole ≡ a.whole)) }
-    ensures acts { FromTo adapter.old.inner.value adapter.new.inner.value (λ a b. KeepsActs a b) }
-    ensures none_gathered { FromTo adapter.old.inner.value adapter.new.inner.value (λ a b. b.variables.items ≡ []) }
+    ensures none { FromEmpty adapter.old adapter.new (result ≡ YT_NONE) (found.new ≡ found.old) }
+    ensures held { IsFull adapter.old → IsFull adapter.new }
+    ensures tells { FromTo adapter.old adapter.new (TellsVariables holder result found.new) }
+    ensures latched { FromTo adapter.old adapter.new (LatchesAndTells result found.new) }
+    ensures apart { FromTo adapter.old adapter.new StaysOpenApart }
+    ensures length { FromTo adapter.old adapter.new (LeavesBytes found.new.bytes) }
+    ensures limits { FromTo adapter.old adapter.new KeepsLimits }
+    ensures frame { FromTo adapter.old adapter.new KeepsFrame }
+    ensures acts { FromTo adapter.old adapter.new KeepsActs }
+    ensures none_gathered { FromTo adapter.old adapter.new (λ a b. b.variables.items ≡ []) }
 {
     let Some(mut held) = take_out(alloc, adapter) else {
         return YT_NONE;
@@ -512,18 +515,18 @@ pub extern "C" fn yt_adapter_sources(
     sources: &[u8],
     found: &mut YtFound,
 ) -> u32
-    ensures none { adapter.old.inner.value ≡ None → (result ≡ YT_NONE) × (adapter.new.inner.value ≡ None) × (found.new ≡ found.old) }
-    ensures held { IsSome adapter.old.inner.value → IsSome adapter.new.inner.value }
-    ensures tells { FromTo adapter.old.inner.value adapter.new.inner.value (λ a b. (given : _) × IfOk given (λ told. AreSources (json_of sources.now) told) × Tells given a b result found.new) }
-    ensures latched { (fault : TheFault) → FromTo adapter.old.inner.value adapter.new.inner.value (λ a b. a.adapter.fault ≡ Some fault → ((result ≡ adapter_number fault) ⊎ IsCodeOfText result) × (b.adapter ≡ a.adapter)) }
-    ensures apart { FromTo adapter.old.inner.value adapter.new.inner.value (λ a b. a.adapter.fault ≡ None → has_debuggee a.adapter.session.phase ≡ false → b.adapter.fault ≡ None) }
-    ensures length { FromTo adapter.old.inner.value adapter.new.inner.value (λ a b. found.new.bytes ≡ length b.bytes.items) }
-    ensures wanted { result ≡ YT_BAD_ARGUMENTS → ⊥ }
+    ensures none { FromEmpty adapter.old adapter.new (result ≡ YT_NONE) (found.new ≡ found.old) }
+    ensures held { IsFull adapter.old → IsFull adapter.new }
+    ensures tells { FromTo adapter.old adapter.new (TellsSources sources.now result found.new) }
+    ensures latched { FromTo adapter.old adapter.new (LatchesUnlessText result) }
+    ensures apart { FromTo adapter.old adapter.new StaysOpenApart }
+    ensures length { FromTo adapter.old adapter.new (LeavesBytes found.new.bytes) }
+    ensures wanted { result ≢ YT_BAD_ARGUMENTS }
     ensures no_recording { result ≡ YT_BAD_RECORDING → HasNoSources (json_of sources.now) }
-    ensures limits { FromTo adapter.old.inner.value adapter.new.inner.value (λ a b. b.adapter.session.limits ≡ a.adapter.session.limits) }
-    ensures frame { FromTo adapter.old.inner.value adapter.new.inner.value (λ a b. (b.frame ≡ a.frame) × (b.whole ≡ a.whole)) }
-    ensures acts { FromTo adapter.old.inner.value adapter.new.inner.value (λ a b. KeepsActs a b) }
-    ensures gathered { FromTo adapter.old.inner.value adapter.new.inner.value (λ a b. b.variables ≡ a.variables) }
+    ensures limits { FromTo adapter.old adapter.new KeepsLimits }
+    ensures frame { FromTo adapter.old adapter.new KeepsFrame }
+    ensures acts { FromTo adapter.old adapter.new KeepsActs }
+    ensures gathered { FromTo adapter.old adapter.new (λ a b. b.variables ≡ a.variables) }
 {
     tell_handle(alloc, adapter, more_given(alloc, sources), found)
 }
