@@ -259,7 +259,7 @@ pub extern "C" fn yt_adapter_stopped(
 ) -> u32
     ensures none { FromEmpty adapter.old adapter.new (result ≡ YT_NONE) (found.new ≡ found.old) }
     ensures held { IsFull adapter.old → IsFull adapter.new }
-    ensures tells { FromTo adapter.old adapter.new 
+    ensures tells { FromTo adapter.old adapter.new
         (TellsStop reason.now thread shows.now later result found.new) }
     ensures latched { FromTo adapter.old adapter.new (LatchesUnlessText result) }
     ensures apart { FromTo adapter.old adapter.new StaysOpenApart }
@@ -387,7 +387,7 @@ pub extern "C" fn yt_adapter_learned(
 ) -> u32
     ensures none { FromEmpty adapter.old adapter.new (result ≡ YT_NONE) (found.new ≡ found.old) }
     ensures held { IsFull adapter.old → IsFull adapter.new }
-    ensures tells { FromTo adapter.old adapter.new 
+    ensures tells { FromTo adapter.old adapter.new
         (TellsLearned asked.now value.now known has_parts holder result found.new) }
     ensures latched { FromTo adapter.old adapter.new (LatchesUnlessText result) }
     ensures apart { FromTo adapter.old adapter.new StaysOpenApart }

@@ -73,9 +73,7 @@ fn push_cause(out: &mut Vec<u8>, cause: &BadCause) -> Result<(), AllocError>
         } => push_out_of_range(out, *number, *least, *greatest),
         BadCause::NotPlain => push(
             out,
-            &[Part::Words(
-                "an object with a float, or nested more than 100 deep",
-            )],
+            &[Part::Words("an object with a float, or nested more than 100 deep")],
         ),
         BadCause::NoSource { source, count } => push_no_source(out, *source, *count),
         BadCause::PastLines { line, lines } => push_past_lines(out, *line, *lines),

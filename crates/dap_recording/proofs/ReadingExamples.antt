@@ -157,7 +157,6 @@ members_beside more same = ap (λ ms. Ok (record { name = codes "v"; value = cod
 null_is_no_members : (variables_of (one (variable_more null)) [] ≡ Err key.More) × (variables_of (one (variable_more none)) [] ≡ Err key.More) × (variables_of (one (variable_more (object (put (codes "x") (number (float nan)) no_members)))) [] ≡ Err key.More)
 null_is_no_members = (refl, refl, refl)
 
-
 -- ---- moments
 
 abbrev recorded : Items → Data
