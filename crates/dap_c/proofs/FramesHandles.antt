@@ -1,7 +1,7 @@
 -- The handle of a reader of frames, as the proofs of all handles take it.
 use Rattle.std.proofs.Common.{refl}
-use Rattle.dap_c.specs.declared.frames.FramesHandle.{FramesHandle}
-use Rattle.dap_c.specs.contracts.frames.FramesHandle as handle
+use Rattle.dap_c.specs.declared.frames_handle.FramesHandle.{FramesHandle}
+use Rattle.dap_c.specs.contracts.frames_handle.FramesHandle as handle
 use Rattle.dap_frame.specs.contracts.frames.Frames as held
 use Rattle.dap_slot.proofs.Handles.{Handle}
 

@@ -1,7 +1,7 @@
 -- What the handle of a reader of frames holds.
 use Rattle.std.specs.Prelude.{◌≡◌, IsSome, IfSome, None}
 use Rattle.dap_c_parts.specs.Behind.{FromNone, FromTo as Both}
-use Rattle.dap_c.specs.declared.frames.YtFrames.{YtFrames}
+use Rattle.dap_c.specs.declared.frames_handle.YtFrames.{YtFrames}
 use Rattle.dap_frame.specs.Intake.{Intake}
 
 -- it holds one

@@ -10,7 +10,6 @@ ghost use Rattle.dap_frame.specs.Settings.{first_outside};
 ghost use Rattle.dap_client.specs.Session.{fresh_session};
 ghost use Rattle.dap_client.specs.StandsFor.{StandsFor};
 ghost use Rattle.dap_client.specs.TerminalResponse.{is_plain_terminal};
-ghost use Rattle.dap_c_parts.specs.Behind.{FromTo};
 ghost use Rattle.dap_c_parts.specs.Finds.{FindsNothing};
 ghost use Rattle.dap_c.specs.CallGiven.{IsCallOf, IsCodeOfCall, AcceptsCall};
 ghost use Rattle.dap_c.specs.ClientCalls.{Sends, Refuses, Answers, RefusesAnswer, TakesPiece, RefusesPiece, IsAsBefore, bytes_so_far, HasNothing, terminal_of, process_of, SendsCall, RefusesCall, AnswersTerminal, RefusesTerminal, TakesBytes, RefusesBytes, IfPlainCall, LeavesBytes, KeepsFrame, IsPlainTerminal, LeavesNothing, LatchesFault, PutsBytes, PutsFrame, HasNoFrame, IsFreshWithin, KeepsLimits, KeepsTables};

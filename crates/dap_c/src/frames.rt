@@ -8,15 +8,13 @@ ghost use Rattle.dap_frame.specs.Intake.{Intake, IsReady, IsUnderWay, IsGivenUp,
 ghost use Rattle.dap_frame.specs.Intake.{IsClosed};
 ghost use Rattle.dap_frame.specs.Settings.{bounds_of, first_outside};
 ghost use Rattle.dap_frame.specs.declared.Refusal.{Refusal};
-ghost use Rattle.dap_c_parts.specs.Behind.{FromTo};
-ghost use Rattle.dap_frame.specs.contracts.frames.Frames.{the_row};
-ghost use Rattle.dap_slot.specs.Owned.{handle_owns};
 ghost use Rattle.dap_c_parts.specs.Limited.{settings_of, AreOutOfRange};
 ghost use Rattle.dap_c.specs.Refused.{end_number, ClosesWith, IsRefusedAgain};
 ghost use Rattle.dap_c.specs.FramesBehind.{IsFull, IsEmpty, IfFull, FromTo, FromEmpty};
 ghost use Rattle.dap_c.specs.FramesCalls.{CompletesFrame, GathersPart, ClosesReader, ClosesAtBytes, UsesBytes, TellsBody, StaysReady, StaysGivenUp, LatchesRefusal, StandsAsBefore, EndsAsItStands, IfClosed, PutsBody, HasNoBody};
 ghost use Rattle.dap_c_parts.specs.Buffer.{StaysIfSmall};
 
+use crate::frames_handle::YtFrames;
 use dap_c_parts::causes::cause_of;
 use dap_c_parts::codes::{
     YT_BAD_LIMITS, YT_FRAME, YT_NO_MEMORY, YT_NONE, YT_NOTHING, YT_OK, YT_READY, YT_SMALL,
@@ -25,30 +23,8 @@ use dap_c_parts::codes::{
 use dap_c_parts::copying::put;
 use dap_c_parts::limits::{self, YtLimits};
 use dap_frame::{End, FrameFault, Frames};
-use dap_slot::{Handle, Slot, handle_of, take_out};
+use dap_slot::{handle_of, take_out};
 use std::alloc::Global;
-use std::marker::Model;
-
-/// Where the reader is.
-#[repr(C)]
-#[derive(Drop)]
-pub struct FramesHandle {
-    at: *mut u8,
-    pub ghost value: { Option Intake },
-}
-
-impl Model for FramesHandle {
-    ghost also_owns = { λ h. handle_owns the_row h.at h.value };
-}
-
-/// A reader, or none. All zero is none.
-#[repr(C)]
-#[derive(Drop)]
-pub struct YtFrames {
-    pub inner: FramesHandle,
-    pub full: bool,
-    ghost held: { full ≡ is_some inner.value },
-}
 
 /// What a piece did.
 #[repr(C)]
@@ -63,44 +39,6 @@ pub struct YtFed {
     /// Why it is refused, from 1: the block is too long, a line is no field, no length, two lengths, a bad length, the body
     /// is too long. 0 where none is.
     pub cause: u32,
-}
-
-impl Handle for YtFrames {
-    type Held = Frames;
-
-    ghost value = { λ h. h.inner.value };
-
-    fn from_slot(slot: Slot<Frames, Global>, full: bool) -> YtFrames
-        requires { full ≡ is_some slot.value }
-        ensures { result.inner.value ≡ slot.value }
-    {
-        YtFrames {
-            inner: from_slot(slot),
-            full,
-        }
-    }
-
-    fn into_slot(self, alloc: Global) -> (Slot<Frames, Global>, bool) {
-        let YtFrames { inner, full } = self;
-        (into_slot(alloc, inner), full)
-    }
-}
-
-fn from_slot(slot: Slot<Frames, Global>) -> FramesHandle
-    ensures { result.value ≡ slot.value }
-{
-    let Slot { at, alloc: _ } = slot;
-    FramesHandle { at: at as *mut u8 }
-}
-
-fn into_slot(alloc: Global, handle: FramesHandle) -> Slot<Frames, Global>
-    ensures { result.value ≡ handle.value }
-{
-    let FramesHandle { at } = handle;
-    Slot {
-        at: at as *mut Frames,
-        alloc,
-    }
 }
 
 fn opened(alloc: Global, limits: &YtLimits) -> Result<Box<Frames>, u32>

@@ -14,6 +14,7 @@ mod client;
 mod client_handle;
 mod client_state;
 mod frames;
+mod frames_handle;
 mod heading;
 mod held_client;
 mod layout;
@@ -28,9 +29,10 @@ pub use client::{
 pub use client_handle::{ClientHandle, YtClient};
 pub use client_state::{YtCapabilities, YtClientSeen, yt_client_capabilities, yt_client_state};
 pub use frames::{
-    FramesHandle, YtFed, YtFrames, yt_frames_body, yt_frames_feed, yt_frames_finish,
-    yt_frames_free, yt_frames_open, yt_frames_release,
+    YtFed, yt_frames_body, yt_frames_feed, yt_frames_finish, yt_frames_free, yt_frames_open,
+    yt_frames_release,
 };
+pub use frames_handle::{FramesHandle, YtFrames};
 pub use heading::{YtHeadingFound, yt_heading};
 pub use held_client::HeldClient;
 pub use layout::{YtSizes, yt_sizes_of};

@@ -147,7 +147,10 @@ fn lacks_source<D: Debuggee>(alloc: Global, debuggee: &D, call: &Call) -> Result
         return Ok(true);
     }
     match debuggee.source(alloc, number - 1) {
-        Ok(_) => Ok(false),
+        Ok(source) => {
+            drop(source);
+            Ok(false)
+        }
         Err(DebuggeeFault::Refused) => Ok(true),
         Err(DebuggeeFault::OutOfMemory) => Err(AllocError),
     }

@@ -1,8 +1,8 @@
 use Rattle.dap_slot.proofs.Handles.{from_slot_meets}
 use Rattle.dap_c.proofs.FramesHandles.{the_handle}
-use Rattle.dap_c.specs.contracts.frames.from_slot.Key.{name}
-use Rattle.dap_c.proofs.frames.from_slot.Statement.{statement}
-use Rattle.dap_c.proofs.frames.from_slot.Code as code
+use Rattle.dap_c.specs.contracts.frames_handle.from_slot.Key.{name}
+use Rattle.dap_c.proofs.frames_handle.from_slot.Statement.{statement}
+use Rattle.dap_c.proofs.frames_handle.from_slot.Code as code
 
 pub from_slot_spec : {M : Type 1} → statement M
 from_slot_spec 𝓤 𝓛 𝓜 𝓡 wired = from_slot_meets the_handle 𝓤 𝓛 𝓜 𝓡 name (code.unfolded 𝓤 𝓛.H 𝓜 𝓡 wired)
