@@ -147,16 +147,14 @@ fn value_in(alloc: Global, told: &Value) -> Result<Option<Text>, Unread>
 }
 
 /// What stands beside a variable.
-fn more_in(alloc: Global, told: &Value) -> Result<More, Unread>
-    ensures { Gives result (optional_or more_of [] HostKey.More (view told.now)) }
+fn more_in(alloc: Global, told: &Value) -> Result<Result<More, HostKey>, AllocError>
+    ensures { IfOk result (λ more. more ≡ optional_or more_of [] HostKey.More (view told.now)) }
 {
     let Some(found) = at(told, HostKey::More).found else {
-        return Ok(More::none());
+        return Ok(Ok(More::none()));
     };
-    match More::of(alloc, found)? {
-        Some(more) => Ok(more),
-        None => Err(HostKey::More.into()),
-    }
+    let more = More::of(alloc, found)?;
+    Ok(more.ok_or(HostKey::More))
 }
 
 /// The number of a holder, where there is one.
@@ -177,6 +175,7 @@ fn variable_in(alloc: Global, value: &Value) -> Result<Variable, Unread>
     let text = text_at(alloc, value, HostKey::Value)?;
     let holder = holder_in(value)?;
     let more = more_in(alloc, value)?;
+    let more = more?;
     Ok(Variable {
         name,
         value: text,

@@ -9,6 +9,7 @@ use Rattle.dap_debuggee.specs.Laws.{is_frame, FramesInRange, NamesOneFrame}
 use Rattle.dap_debuggee.specs.Shown.{window}
 use Rattle.dap_debuggee.specs.declared.answers.Frame.{Frame}
 use Rattle.dap_debuggee.specs.declared.answers.Variable.{Variable}
+use Rattle.dap_json.specs.declared.more.Member.{Member}
 use Rattle.my_debugger.specs.declared.call.Call.{Call}
 use Rattle.my_debugger.specs.declared.call.Local.{Local}
 use Rattle.my_debugger.specs.ToyShown.{ToyState, line_of, frame_of, frames_from, variable_of, calls_in, shown_toy}
@@ -21,12 +22,13 @@ one_more number (c ∷ calls) call =
     let e : (number + 1) + length calls ≡ number + length (c ∷ calls) = omega arith in
     ap (λ rest. frame_of number c ∷ rest) (one_more (number + 1) calls call ∙ ap (λ n. frames_from (number + 1) calls ++ frame_of n call ∷ []) e)
 
-pub next_frame : (calls : List Call) (i : ℕ) (call : Call) (name : List ℕ) (line : ℕ) (frames more : List Frame) → i < length calls → call ≡ get_or calls i call → name ≡ call.name → line ≡ line_of call
-    → frames ≡ frames_from 0 (take i calls) → more ≡ frames ++ record { object = i; name = name; source = Some 0; line = line; more = [] } ∷ [] → more ≡ frames_from 0 (take (i + 1) calls)
-next_frame calls i call name line frames more within at named lined so_far is =
+pub next_frame : (calls : List Call) (i : ℕ) (call : Call) (name : List ℕ) (line : ℕ) (beside : List Member) (frames more : List Frame) → i < length calls → call ≡ get_or calls i call → name ≡ call.name → line ≡ line_of call → beside ≡ []
+    → frames ≡ frames_from 0 (take i calls) → more ≡ frames ++ record { object = i; name = name; source = Some 0; line = line; more = beside } ∷ [] → more ≡ frames_from 0 (take (i + 1) calls)
+next_frame calls i call name line beside frames more within at named lined none so_far is =
     let number : i ≡ 0 + length (take i calls) = omega (arith, length-take i calls) in
     let taken : take (i + 1) calls ≡ take i calls ++ call ∷ [] = take_more calls i call within ∙ ap (λ c. take i calls ++ c ∷ []) (sym at) in
     is
+    ∙ ap (λ ms. frames ++ record { object = i; name = name; source = Some 0; line = line; more = ms } ∷ []) none
     ∙ ap (λ fs. fs ++ record { object = i; name = name; source = Some 0; line = line; more = [] } ∷ []) so_far
     ∙ ap (λ t. frames_from 0 (take i calls) ++ record { object = i; name = t; source = Some 0; line = line; more = [] } ∷ []) named
     ∙ ap (λ l. frames_from 0 (take i calls) ++ record { object = i; name = call.name; source = Some 0; line = l; more = [] } ∷ []) lined
