@@ -73,9 +73,8 @@ pub(crate) fn put_before<'m>(
     put_some_before(out, key, members)
 }
 
-/// Writes all that are left.
 #[tactic(auto, unfolding(crate::specs::PrivateText::wrote_among))]
-pub(crate) fn put_left(out: &mut Writer, members: &[Member]) -> Result<(), AllocError>
+fn put_all(out: &mut Writer, members: &[Member]) -> Result<(), AllocError>
     requires { HasNoFloats members.now }
     ensures adds { OnOk result (out.new.tokens ≡ wrote_among [] members.now out.old.tokens) }
     ensures before { out.new.before ≡ out.old.before }
@@ -84,4 +83,18 @@ pub(crate) fn put_left(out: &mut Writer, members: &[Member]) -> Result<(), Alloc
         put_member(out, member)?;
     }
     Ok(())
+}
+
+/// Writes all that are left. Where there are none, nothing is called.
+#[inline(always)]
+#[tactic(auto, unfolding(crate::specs::PrivateText::wrote_among))]
+pub(crate) fn put_left(out: &mut Writer, members: &[Member]) -> Result<(), AllocError>
+    requires { HasNoFloats members.now }
+    ensures adds { OnOk result (out.new.tokens ≡ wrote_among [] members.now out.old.tokens) }
+    ensures before { out.new.before ≡ out.old.before }
+{
+    if members.is_empty() {
+        return Ok(());
+    }
+    put_all(out, members)
 }

@@ -70,6 +70,7 @@ impl More {
     ghost use Rattle.dap_json.specs.More.{IsMore, more_of};
 
     /// There are none.
+    #[inline(always)]
     pub fn none() -> More
         ensures { result ≡ [] }
     {
@@ -98,6 +99,9 @@ impl More {
         let Value::Object(map) = value else {
             return Ok(None);
         };
+        if map.is_empty() {
+            return Ok(Some(More::none()));
+        }
         if !is_plain(value, MORE_NESTING) {
             return Ok(None);
         }
@@ -109,6 +113,7 @@ impl More {
     }
 
     /// The members, lent.
+    #[inline(always)]
     pub fn as_slice(&self) -> &[Member]
         ensures { result.now ≡ self.now }
     {
@@ -130,6 +135,7 @@ impl More {
 impl Clone for More {
     ghost is_clone = { λ a b. b ≡ a };
 
+    #[inline(always)]
     fn clone(&self) -> Result<More, AllocError> {
         let held = match &self.held {
             None => None,

@@ -1,7 +1,7 @@
 use Rattle.std.proofs.Common.{◌≡◌, drop}
 use Rattle.dap_body.specs.Beside.{fields_of}
 use Rattle.dap_body.specs.PrivateText.{wrote_row, HasNoFloats}
-use Rattle.dap_body.proofs.beside.put_left.Given as goal
+use Rattle.dap_body.proofs.beside.put_all.Given as goal
 
 -- with those that are left, all are written
 abbrev pub invariant-loop-member : goal.invariant-loop-member
