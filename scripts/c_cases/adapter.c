@@ -4,9 +4,10 @@
 
 static const char BASE[] = "{\"sources\":[{\"name\":\"a.c\",\"path\":\"/w/a.c\",\"text\":\"1\\n2\\n3\\n4\\n\"}]}";
 static const char SHOWS[] =
-    "{\"exit\":0,\"sources\":[{\"name\":\"a.c\",\"path\":\"/w/a.c\",\"text\":\"1\\n2\\n3\\n4\\n\"}],"
-    "\"moments\":[{\"threads\":[{\"id\":7,\"name\":\"main\",\"frames\":[{\"name\":\"f\",\"source\":0,\"line\":3,"
-    "\"scopes\":[{\"name\":\"Locals\",\"variables\":[{\"name\":\"x\",\"value\":\"41\"}]},{\"name\":\"Globals\"}]}]}],\"thread\":7}]}";
+    "{\"threads\":[{\"id\":7,\"name\":\"main\",\"frames\":[{\"name\":\"f\",\"source\":0,\"line\":3,"
+    "\"scopes\":[{\"name\":\"Locals\",\"variables\":[{\"name\":\"x\",\"value\":\"41\"}]},{\"name\":\"Globals\"}]},{\"name\":\"g\"}]}],\"thread\":7}";
+static const char PAST[] = "{\"threads\":[{\"id\":7,\"name\":\"main\",\"frames\":[{\"name\":\"f\",\"source\":1,\"line\":1}]}],\"thread\":7}";
+static const char RECORDING[] = "{\"exit\":0,\"sources\":[{\"name\":\"a.c\",\"text\":\"1\\n\"}],\"moments\":[{\"threads\":[],\"thread\":7}]}";
 
 static yt_adapter adapter;
 static yt_found found;
@@ -172,9 +173,11 @@ static void nothing_is_held(void) {
     CHECK(yt_adapter_state(&adapter, &seen) == YT_NONE && yt_adapter_target(&adapter, 1, &target) == YT_NONE);
     yt_adapter_free(&adapter);
     CHECK(yt_adapter_open(&adapter, &limits, BYTES("{\"sources\":[{}]}")) == YT_BAD_RECORDING);
-    CHECK(yt_adapter_open(&adapter, &limits, BYTES(SHOWS)) == YT_OK); /* a whole recording */
+    CHECK(yt_adapter_open(&adapter, &limits, BYTES(RECORDING)) == YT_OK); /* what else it has is not looked at */
     CHECK(yt_adapter_open(&adapter, &limits, BYTES(BASE)) == YT_OK);
-    CHECK(yt_adapter_stopped(&adapter, BYTES("x"), 1, BYTES(BASE), false, &found) == YT_BAD_RECORDING);
+    CHECK(yt_adapter_stopped(&adapter, BYTES("x"), 1, BYTES(RECORDING), false, &found) == YT_BAD_RECORDING);
+    CHECK(yt_adapter_stopped(&adapter, BYTES("x"), 1, BYTES(PAST), false, &found) == YT_BAD_RECORDING); /* there is one source */
+    CHECK(yt_adapter_stopped(&adapter, BYTES("x"), 1, BYTES(SHOWS), false, &found) == YT_OUT_OF_TURN);
     CHECK(yt_adapter_output(&adapter, 9, BYTES("x"), &found) == YT_BAD_ARGUMENTS && yt_adapter_output(&adapter, 1, BYTES("\xff"), &found) == YT_BAD_ARGUMENTS);
     CHECK(yt_adapter_stopped(&adapter, BYTES("x"), 1, BYTES("[]"), false, &found) == YT_BAD_RECORDING);
     CHECK(yt_adapter_take(&adapter, BYTES("Content-Length: 2\r\n\r\n[]"), &found) == YT_BODY && found.at == 0 && found.cause == 2);

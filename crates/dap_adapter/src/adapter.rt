@@ -124,7 +124,14 @@ impl<D: Debuggee + Drop> Adapter<D> {
         self.session.asked()
     }
 
-    /// The debuggee, as the calls left it. Nothing is told to the client any more.
+    /// The debuggee, as the calls left it.
+    pub fn debuggee(&self) -> &D
+        ensures { result.now ≡ self.now.debuggee }
+    {
+        self.session.debuggee()
+    }
+
+    /// The same, given out. Nothing is told to the client any more.
     pub fn into_debuggee(self) -> D
         ensures { result ≡ self.debuggee }
     {

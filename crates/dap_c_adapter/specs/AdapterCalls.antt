@@ -1,16 +1,14 @@
 -- What the exports of an adapter do, in the words of dap_adapter, over the adapter behind the handle and a debuggee that the
 -- host feeds.
-use Rattle.std.specs.Prelude.{◌≡◌, ◌⊎◌, ℕ, zero, suc, ℤ, List, [], ◌++◌, length, take, Bool, false, Option, Some, None, Result, Ok, Err, is_some, option_map, if◌then◌else◌}
+use Rattle.std.specs.Prelude.{◌≡◌, ◌⊎◌, ℕ, zero, suc, ℤ, List, [], ◌++◌, length, take, Bool, false, Option, Some, None, Result, Ok, Err, is_some, if◌then◌else◌}
 use Rattle.dap_debuggee.specs.declared.answers.Category.{Category}
 use Rattle.dap_debuggee.specs.declared.answers.Category.TheVariants.{Console, Stdout, Stderr}
 use Rattle.dap_debuggee.specs.declared.answers.Variable.{Variable}
 use Rattle.dap_envelope.specs.declared.message.Message.{Message}
-use Rattle.std.specs.List.{slice_get}
 use Rattle.serde_json.specs.Data.{Data}
-use Rattle.dap_recording.specs.declared.recording.Recording.{Recording}
 use Rattle.dap_recording.specs.declared.recording.RecordedSource.{RecordedSource}
-use Rattle.dap_recording.specs.Reading.{verdict_of, file_sources}
-use Rattle.dap_recording.specs.Snapshot.{MomentAlone, alone_in}
+use Rattle.dap_recording.specs.Reading.{file_sources, read_moment}
+use Rattle.dap_recording.specs.Snapshot.{MomentAlone}
 use Rattle.dap_live.specs.declared.mail.Coming.{Coming}
 use Rattle.dap_live.specs.declared.mail.Coming.TheVariants as said
 use Rattle.dap_live.specs.declared.mail.Dropped.{Dropped}
@@ -37,10 +35,6 @@ pub record IsOpenedOver (json : Option Data) (debuggee : LiveState) : Type 0 whe
 -- these bytes, read as JSON, are no file of sources
 abbrev pub HasNoSources : Option Data → Type 0
 HasNoSources json = (sources : List RecordedSource) → file_sources json ≡ Ok sources → ⊥
-
--- these bytes, read as JSON, are no recording
-abbrev pub IsNoRecording : Option Data → Type 0
-IsNoRecording json = (recording : Recording) → verdict_of json ≡ Ok recording → ⊥
 
 -- the bytes that were used since the message before
 abbrev pub frame_so_far : HeldAdapter → List ℕ
@@ -168,16 +162,23 @@ category_of zero = Console
 category_of (suc zero) = Stdout
 category_of (suc (suc n)) = Stderr
 
--- the first moment of a recording, by itself
-pub record IsFirstOf (json : Option Data) (moment : MomentAlone) : Type 0 where
-  pub recording : Recording
-  pub read : verdict_of json ≡ Ok recording
-  pub first : option_map (alone_in recording) (slice_get recording.moments 0) ≡ Some moment
+-- these bytes, read as JSON, are this moment over the sources
+pub record IsMoment (sources : List RecordedSource) (json : Option Data) (moment : MomentAlone) : Type 0 where
+  pub data : Data
+  pub is_json : json ≡ Some data
+  pub read : read_moment sources data ≡ Ok moment
 
--- a stop at the first moment of a recording
-pub record IsStop (reason : List ℕ) (thread : ℤ) (shows : Option Data) (later : Bool) (told : Coming) : Type 0 where
+-- JSON data, or bytes that are read as JSON, are no moment over the sources
+abbrev pub IsNoMomentIn : List RecordedSource → Data → Type 0
+IsNoMomentIn sources data = (moment : MomentAlone) → read_moment sources data ≡ Ok moment → ⊥
+
+abbrev pub IsNoMoment : List RecordedSource → Option Data → Type 0
+IsNoMoment sources json = (moment : MomentAlone) → IsMoment sources json moment → ⊥
+
+-- a stop at a moment over the sources
+pub record IsStop (sources : List RecordedSource) (reason : List ℕ) (thread : ℤ) (shows : Option Data) (later : Bool) (told : Coming) : Type 0 where
   pub moment : MomentAlone
-  pub first : IsFirstOf shows moment
+  pub shown : IsMoment sources shows moment
   pub is : told ≡ said.Stopped reason thread moment later
 
 -- the sources of a file

@@ -18,7 +18,7 @@ use Rattle.dap_c_parts.specs.declared.found.YtFound.{YtFound}
 use Rattle.dap_c_parts.specs.declared.limits.YtLimits.{YtLimits}
 use Rattle.dap_c_adapter.specs.Acts.{IsActFound}
 use Rattle.dap_c_adapter.specs.AdapterBehind.{FromTo}
-use Rattle.dap_c_adapter.specs.AdapterCalls.{IsOpenedOver, AdapterTakes, RefusesAdapterPiece, IsAdapterAsBefore, AdapterTurns, RefusesTurn, Tells, IsStop, AreSources, IsCodeOfText, category_of, variable_told, acts_due}
+use Rattle.dap_c_adapter.specs.AdapterCalls.{IsOpenedOver, AdapterTakes, RefusesAdapterPiece, IsAdapterAsBefore, AdapterTurns, RefusesTurn, Tells, IsStop, IsNoMoment, AreSources, IsCodeOfText, category_of, variable_told, acts_due}
 use Rattle.dap_c_adapter.specs.AdapterFaults.{adapter_number, IsAdapterFaultFound}
 use Rattle.dap_c_adapter.specs.AdapterSeen.{IsAdapterState, IsTarget}
 use Rattle.dap_c_adapter.specs.declared.acts.YtAct.{YtAct}
@@ -127,7 +127,11 @@ abbrev pub Outputs : ℕ → List ℕ → ℕ → YtFound → HeldAdapter → He
 Outputs category output code found old new = TellsWhere (λ told. told ≡ said.Output (category_of category) output) code found old new
 
 abbrev pub TellsStop : List ℕ → ℤ → List ℕ → Bool → ℕ → YtFound → HeldAdapter → HeldAdapter → Type 0
-TellsStop reason thread shows later code found old new = TellsWhere (λ told. IsStop reason thread (json_of shows) later told) code found old new
+TellsStop reason thread shows later code found old new = TellsWhere (IsStop old.adapter.debuggee.sources reason thread (json_of shows) later) code found old new
+
+-- with the code 107 what is to be shown is no moment over the debuggee's sources
+abbrev pub ShowsNoMoment : List ℕ → ℕ → HeldAdapter → HeldAdapter → Type 0
+ShowsNoMoment shows code old new = code ≡ 107 → IsNoMoment old.adapter.debuggee.sources (json_of shows)
 
 abbrev pub TellsLearned : List ℕ → List ℕ → Bool → Bool → ℕ → ℕ → YtFound → HeldAdapter → HeldAdapter → Type 0
 TellsLearned asked value known has_parts holder code found old new =

@@ -5,14 +5,14 @@
 //! the handle and what the caller lends for an answer are touched.
 ghost use Rattle.std.specs.Prelude.{◌≡◌, ◌⊎◌, ◌≤◌, ◌++◌, ◌∷◌, IfOk, IfErr, IfSome, IsSome, IsOk, IsUtf8, Some, None, Ok, Err, false, [], length, if◌then◌else◌, ◌≢◌};
 ghost use Rattle.dap_json.specs.Read.{json_of};
-ghost use Rattle.dap_recording.specs.Reading.{file_sources};
+ghost use Rattle.dap_recording.specs.Reading.{file_sources, read_moment};
 ghost use Rattle.dap_plan.specs.Polling.{has_debuggee};
 ghost use Rattle.dap_plan.specs.declared.fault.AdapterFault.{AdapterFault as TheFault};
-ghost use Rattle.dap_c_adapter.specs.AdapterCalls.{AdapterSaw, RefusesPoll, Tells, IsStop, AreSources, IsCodeOfText, IsCodeOfRecording, IsToldCode, IsNoRecording, HasNoSources, IsFirstOf, KeepsActs, category_of, mail_number, variable_told};
+ghost use Rattle.dap_c_adapter.specs.AdapterCalls.{AdapterSaw, RefusesPoll, Tells, IsMoment, IsNoMoment, IsNoMomentIn, IsStop, AreSources, IsCodeOfText, IsCodeOfRecording, IsToldCode, HasNoSources, KeepsActs, category_of, mail_number, variable_told};
 ghost use Rattle.dap_c_adapter.specs.AdapterFaults.{adapter_number, IsAdapterFaultFound};
 ghost use Rattle.dap_live.specs.declared.mail.Coming.TheVariants as said;
 ghost use Rattle.dap_c_adapter.specs.AdapterBehind.{IsFull, IsEmpty, FromTo, FromEmpty};
-ghost use Rattle.dap_c_adapter.specs.AdapterExports.{KeepsLimits, KeepsFrame, KeepsAllElse, KeepsGathered, LeavesBytes, LatchesAndTells, Outputs, TellsStop, TellsLearned, TellsSources, TellsGoingOn, TellsExit, TellsVariables, LatchesUnlessText, StaysOpenApart, AcceptsText, Gathers};
+ghost use Rattle.dap_c_adapter.specs.AdapterExports.{KeepsLimits, KeepsFrame, KeepsAllElse, KeepsGathered, LeavesBytes, LatchesAndTells, Outputs, TellsStop, ShowsNoMoment, TellsLearned, TellsSources, TellsGoingOn, TellsExit, TellsVariables, LatchesUnlessText, StaysOpenApart, AcceptsText, Gathers};
 
 use crate::adapter::{adapter_code, adapter_fault_found, only_bytes};
 use crate::adapter_handle::YtAdapter;
@@ -20,9 +20,9 @@ use crate::held_adapter::HeldAdapter;
 use dap_c_parts::codes::*;
 use dap_c_parts::found::YtFound;
 use dap_debuggee::{Category, Variable};
-use dap_json::{List, More, Text};
+use dap_json::{List, More, ParseFault, Text, Tree};
 use dap_live::{Coming, Dropped, Mail};
-use dap_recording::{Recording, RecordingFault, Snapshot, Sources, Texts};
+use dap_recording::{RecordingFault, Snapshot, Sources, Texts};
 use dap_slot::{handle_of, take_out};
 use std::alloc::Global;
 
@@ -147,16 +147,33 @@ fn text_given(alloc: Global, bytes: &[u8]) -> Result<Text, u32>
     }
 }
 
-/// The first moment of a recording.
-fn moment_given(alloc: Global, bytes: &[u8]) -> Result<Snapshot, u32>
-    ensures read { IfOk result (IsFirstOf (json_of bytes.now)) }
-    ensures no_recording { IfErr result (λ code. code ≡ YT_BAD_RECORDING → IsNoRecording (json_of bytes.now)) }
+/// The moment that JSON is, over sources.
+fn moment_in(texts: &mut Texts, sources: &Sources, moment: &Tree) -> Result<Snapshot, u32>
+    ensures read { IfOk result (λ shows. read_moment sources.now moment.now ≡ Ok shows) }
+    ensures no_moment { IfErr result (λ code. code ≡ YT_BAD_RECORDING → IsNoMomentIn sources.now moment.now) }
     ensures code { IfErr result IsCodeOfRecording }
 {
-    match Recording::read(alloc, bytes) {
-        Ok(recording) => Ok(Snapshot::first_of(recording)),
+    match Snapshot::read(texts, sources, moment) {
+        Ok(shows) => Ok(shows),
         Err(RecordingFault::OutOfMemory) => Err(YT_NO_MEMORY),
         Err(_) => Err(YT_BAD_RECORDING),
+    }
+}
+
+/// The same of bytes.
+fn moment_given(alloc: Global, sources: &Sources, bytes: &[u8]) -> Result<Snapshot, u32>
+    ensures read { IfOk result (IsMoment sources.now (json_of bytes.now)) }
+    ensures no_moment { IfErr result (λ code. code ≡ YT_BAD_RECORDING → IsNoMoment sources.now (json_of bytes.now)) }
+    ensures code { IfErr result IsCodeOfRecording }
+{
+    let moment = match dap_json::parse(alloc, bytes) {
+        Ok(value) => Tree::new(value),
+        Err(ParseFault::NotJson) => return Err(YT_BAD_RECORDING),
+        Err(ParseFault::OutOfMemory) => return Err(YT_NO_MEMORY),
+    };
+    match Texts::new(alloc, bytes.len()) {
+        Ok(mut texts) => moment_in(&mut texts, sources, &moment),
+        Err(_) => Err(YT_NO_MEMORY),
     }
 }
 
@@ -201,18 +218,19 @@ fn output_given(alloc: Global, category: u32, output: &[u8]) -> Result<Coming, u
 
 fn stop_given(
     alloc: Global,
+    sources: &Sources,
     reason: &[u8],
     thread: i64,
     shows: &[u8],
     later: bool,
 ) -> Result<Coming, u32>
-    ensures said { IfOk result (IsStop reason.now thread (json_of shows.now) later) }
+    ensures said { IfOk result (IsStop sources.now reason.now thread (json_of shows.now) later) }
     ensures wanted { IsUtf8 reason.now → IfErr result (λ code. code ≡ YT_BAD_ARGUMENTS → ⊥) }
-    ensures no_recording { IfErr result (λ code. code ≡ YT_BAD_RECORDING → IsNoRecording (json_of shows.now)) }
+    ensures no_moment { IfErr result (λ code. code ≡ YT_BAD_RECORDING → IsNoMoment sources.now (json_of shows.now)) }
     ensures code { IfErr result IsCodeOfText }
 {
     let reason = text_given(alloc, reason)?;
-    let shows = moment_given(alloc, shows)?;
+    let shows = moment_given(alloc, sources, shows)?;
     Ok(Coming::Stopped {
         reason,
         thread,
@@ -245,8 +263,34 @@ pub extern "C" fn yt_adapter_output(
     tell_handle(alloc, adapter, output_given(alloc, category, output), found)
 }
 
-/// Tells a stop: a reason of at most 64 bytes, the thread that stopped, and a recording (docs/RECORDINGS.md) whose first moment
-/// is what is shown. `later` says that more of it is told later, by `yt_adapter_variables`.
+/// Tells a stop where the moment that is shown can be read, over the debuggee's sources.
+fn tell_stop(
+    alloc: Global,
+    held: &mut HeldAdapter,
+    reason: &[u8],
+    thread: i64,
+    shows: &[u8],
+    later: bool,
+    found: &mut YtFound,
+) -> u32
+    ensures tells { TellsStop reason.now thread shows.now later result found.new held.old held.new }
+    ensures latched { LatchesUnlessText result held.old held.new }
+    ensures apart { StaysOpenApart held.old held.new }
+    ensures length { LeavesBytes found.new.bytes held.old held.new }
+    ensures wanted { IsUtf8 reason.now → result ≢ YT_BAD_ARGUMENTS }
+    ensures no_moment { ShowsNoMoment shows.now result held.old held.new }
+    ensures limits { KeepsLimits held.old held.new }
+    ensures frame { KeepsFrame held.old held.new }
+    ensures acts { KeepsActs held.old held.new }
+    ensures gathered { held.new.variables ≡ held.old.variables }
+{
+    let sources = held.adapter.debuggee().sources();
+    let coming = stop_given(alloc, sources, reason, thread, shows, later);
+    tell_given(alloc, held, coming, found)
+}
+
+/// Tells a stop: a reason of at most 64 bytes, the thread that stopped, and the moment that is shown, as a host tells it
+/// (docs/HOST.md): JSON, over the sources that there are. `later` says that more of it is told later, by `yt_adapter_variables`.
 #[unsafe(no_mangle)]
 pub extern "C" fn yt_adapter_stopped(
     alloc: Global,
@@ -265,18 +309,26 @@ pub extern "C" fn yt_adapter_stopped(
     ensures apart { FromTo adapter.old adapter.new StaysOpenApart }
     ensures length { FromTo adapter.old adapter.new (LeavesBytes found.new.bytes) }
     ensures wanted { IsUtf8 reason.now → result ≢ YT_BAD_ARGUMENTS }
-    ensures no_recording { result ≡ YT_BAD_RECORDING → IsNoRecording (json_of shows.now) }
+    ensures no_moment { FromTo adapter.old adapter.new (ShowsNoMoment shows.now result) }
     ensures limits { FromTo adapter.old adapter.new KeepsLimits }
     ensures frame { FromTo adapter.old adapter.new KeepsFrame }
     ensures acts { FromTo adapter.old adapter.new KeepsActs }
     ensures gathered { FromTo adapter.old adapter.new (λ a b. b.variables ≡ a.variables) }
 {
-    tell_handle(
+    let Some(mut held) = take_out(alloc, adapter) else {
+        return YT_NONE;
+    };
+    let code = tell_stop(
         alloc,
-        adapter,
-        stop_given(alloc, reason, thread, shows, later),
+        &mut *held,
+        reason,
+        thread,
+        shows,
+        later,
         found,
-    )
+    );
+    *adapter = handle_of(held);
+    code
 }
 
 /// Tells that it went on by itself.

@@ -102,5 +102,5 @@ pub const YT_SMALL: u32 = 105;
 /// There is nothing to put.
 pub const YT_NOTHING: u32 = 106;
 
-/// The bytes are no recording.
+/// The bytes are no moment over the sources, or no JSON object with sources.
 pub const YT_BAD_RECORDING: u32 = 107;

@@ -7,4 +7,3 @@ mod HostingLemmas
 mod LogLemmas
 mod LongLemmas
 mod MessageLemmas
-mod KeepLemmas

@@ -30,7 +30,7 @@ use Rattle.dap_recording.specs.declared.recording.RecordedSource.{RecordedSource
 use Rattle.dap_plan.specs.Session.{fresh_session}
 use Rattle.dap_tables.specs.References.{target_of}
 use Rattle.dap_plan.specs.declared.fault.AdapterFault.{AdapterFault}
-use Rattle.dap_line.specs.Moments.{IsComing, Fails, sources_after, HasRoom}
+use Rattle.dap_line.specs.Moments.{IsComing, Fails, HasRoom}
 use Rattle.dap_line.specs.Told.{IsMessage, said_of, happening_of}
 use Rattle.dap_line.specs.Written.{message_lines, act_lines, refusal_line, target_line}
 use Rattle.dap_host.specs.declared.host.Mark.{Mark}
@@ -44,13 +44,16 @@ use Rattle.dap_line.specs.declared.told.Unread.TheVariants.{Refused, OutOfMemory
 
 -- ---- a host
 
--- the adapter, the sources over which moments are read, the limits, how many bytes a line may have, and how many lines came
+-- the adapter, the limits, how many bytes a line may have, and how many lines came
 pub record HostState : Type 0 where
   pub adapter : AdapterState LiveState
-  pub sources : List RecordedSource
   pub limits : Settings
   pub longest : ℕ
   pub number : ℕ
+
+-- the sources over which moments are read: those of the debuggee
+abbrev pub sources_of : HostState → List RecordedSource
+sources_of h = h.adapter.debuggee.sources
 
 -- its adapter is open, between two messages, what it wrote can be read, and the debuggee has no mail
 pub record IsGoing (h : HostState) : Type 0 where
@@ -63,10 +66,11 @@ pub record IsGoing (h : HostState) : Type 0 where
 
 -- a host of this file to which no line came
 pub record IsFresh (limits : Settings) (longest : ℕ) (bytes : List ℕ) (h : HostState) : Type 0 where
-  pub reads : file_sources (json_of bytes) ≡ Ok h.sources
+  pub sources : List RecordedSource
+  pub reads : file_sources (json_of bytes) ≡ Ok sources
   pub stands : StandsFor h.adapter [] []
   pub session : h.adapter.session ≡ fresh_session limits
-  pub debuggee : h.adapter.debuggee ≡ fresh_live h.sources
+  pub debuggee : h.adapter.debuggee ≡ fresh_live sources
   pub limits_are : h.limits ≡ limits
   pub longest_is : h.longest ≡ longest
   pub number : h.number ≡ 0
@@ -77,7 +81,6 @@ counted h = record h { number = saturating_count (h.number + 1) }
 
 -- all but the adapter is the same
 pub record SameButAdapter (old new : HostState) : Type 0 where
-  pub sources : new.sources ≡ old.sources
   pub limits : new.limits ≡ old.limits
   pub longest : new.longest ≡ old.longest
   pub number : new.number ≡ old.number
@@ -116,14 +119,14 @@ pub record Comes (h : HostState) (text : List ℕ) (coming : Coming) : Type 0 wh
   pub told : Told
   pub is : said_of text ≡ Ok (Happened told)
   pub in_turn : drop_of h.adapter.session.phase told ≡ None
-  pub comes : IsComing h.sources told coming
+  pub comes : IsComing (sources_of h) told coming
 
 -- why what a host tells is refused: it is not read, or it is dropped, or its moment is none, or there is no room for its sources
 pub data RefusesTold (h : HostState) (text : List ℕ) (why : Refusal) : Type 0 where
   unread : said_of text ≡ Err why → RefusesTold h text why
   dropped : (told : Told) (drop : Drop) → said_of text ≡ Ok (Happened told) → drop_of h.adapter.session.phase told ≡ Some drop → why ≡ Dropped drop → RefusesTold h text why
-  bad_moment : (told : Told) → said_of text ≡ Ok (Happened told) → drop_of h.adapter.session.phase told ≡ None → Fails h.sources told (Refused why) → RefusesTold h text why
-  no_room : (coming : Coming) → Comes h text coming → (HasRoom h.sources coming → ⊥) → why ≡ Dropped TooManySources → RefusesTold h text why
+  bad_moment : (told : Told) → said_of text ≡ Ok (Happened told) → drop_of h.adapter.session.phase told ≡ None → Fails (sources_of h) told (Refused why) → RefusesTold h text why
+  no_room : (coming : Coming) → Comes h text coming → (HasRoom (sources_of h) coming → ⊥) → why ≡ Dropped TooManySources → RefusesTold h text why
 
 -- the same; nothing is said where memory was refused
 abbrev pub IsUnheard : HostState → List ℕ → Unread → Type 0
@@ -133,7 +136,7 @@ IsUnheard h text NoMemory = Unit {0}
 -- it is heard, where there is room
 pub record HearsTold (h : HostState) (text : List ℕ) (coming : Coming) : Type 0 where
   pub comes : Comes h text coming
-  pub room : HasRoom h.sources coming
+  pub room : HasRoom (sources_of h) coming
 
 -- a line is refused, and nothing else has changed
 pub record Refuses (old : HostState) (why : Refusal) (before after : List ℕ) (new : HostState) : Type 0 where
@@ -169,21 +172,11 @@ pub record AnswersTarget (old : HostState) (number : ℕ) (before after : List �
   pub same : new ≡ old
 
 -- where the debuggee drops after all what was told, the line is refused behind them, for just that reason
-pub record TellsOrDrops (old : HostState) (c : Coming) (dropped : Option Drop) (before after : List ℕ) (new : HostState) : Type 0 where
+pub record TellsOrDrops (old : HostState) (c : Coming) (before after : List ℕ) (new : HostState) : Type 0 where
+  pub dropped : Option Drop
   pub lines : List ℕ
   pub tells : TellsIt old c dropped before lines new
   pub says : after ≡ lines ++ dropped_line old.number dropped
-
--- sources that come are then behind those that there were; where they are dropped, all is as it was
-abbrev pub kept : Option Drop → Coming → HostState → HostState
-kept None c h = record h { sources = sources_after c h.sources }
-kept (Some why) c h = h
-
-pub record TellsAndKeeps (old : HostState) (c : Coming) (before after : List ℕ) (new : HostState) : Type 0 where
-  pub dropped : Option Drop
-  pub told : HostState
-  pub tells : TellsOrDrops old c dropped before after told
-  pub keeps : new ≡ kept dropped c told
 
 pub data HearsMessage (old : HostState) (body before after : List ℕ) (new : HostState) : Type 0 where
   refused : (why : Refusal) → RefusesMessage old body why → Refuses old why before after new → HearsMessage old body before after new
@@ -192,7 +185,7 @@ pub data HearsMessage (old : HostState) (body before after : List ℕ) (new : Ho
 pub data HearsHappening (old : HostState) (text before after : List ℕ) (new : HostState) : Type 0 where
   not_heard : (why : Refusal) → RefusesTold old text why → Refuses old why before after new → HearsHappening old text before after new
   asked : (number : ℕ) → said_of text ≡ Ok (Target number) → AnswersTarget old number before after new → HearsHappening old text before after new
-  heard : (coming : Coming) → HearsTold old text coming → TellsAndKeeps old coming before after new → HearsHappening old text before after new
+  heard : (coming : Coming) → HearsTold old text coming → TellsOrDrops old coming before after new → HearsHappening old text before after new
 
 -- ---- a line, by its first two bytes
 

@@ -1,6 +1,5 @@
 pub mod Fed
 pub mod Hearing
-pub mod PrivateKeeping
 pub mod Fetching
 pub mod PrivateFetching
 pub mod Hosting

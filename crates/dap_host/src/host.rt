@@ -91,8 +91,6 @@ fn dropped_in(phase: Phase, told: &Told) -> Result<Option<Dropped>, AllocError>
 #[derive(Drop)]
 pub struct Host {
     adapter: Adapter<Live>,
-    /// Moments are read over them.
-    sources: Sources,
     /// Those of moments, which later ones share.
     texts: Texts,
     limits: Limits,
@@ -113,16 +111,15 @@ impl Model for Host {
 
     ghost coded = { Prim.hlevel (codes, coded_data) };
 
-    ghost view = { λ h. record { adapter = h.adapter; sources = h.sources; limits = h.limits; longest = h.longest; number = h.number } };
+    ghost view = { λ h. record { adapter = h.adapter; limits = h.limits; longest = h.longest; number = h.number } };
 }
 
 impl Host {
     ghost use Rattle.std.specs.Prelude.{◌≡◌, ◌≢◌, ◌↔◌, ◌<◌, ◌++◌, List, ℕ, length, IfOk, IfErr, OnOk, OnErr, IfSome, IsTrue, None, Ok, Err, true, false};
-    ghost use Rattle.dap_host.specs.Hearing.{IsFresh, IsGoing, RefusesMessage, TakesMessage, Comes, HearsTold, IsUnheard, AnswersMessage, dropped_line, TellsIt, TellsOrDrops, TellsAndKeeps, StopsMessage, StopsTelling, HearsMessage, HearsHappening, HearsMarked, StopsMarked, HearsText, Hears, Stops, counted};
+    ghost use Rattle.dap_host.specs.Hearing.{IsFresh, IsGoing, RefusesMessage, TakesMessage, Comes, HearsTold, IsUnheard, AnswersMessage, dropped_line, TellsIt, TellsOrDrops, StopsMessage, StopsTelling, HearsMessage, HearsHappening, HearsMarked, StopsMarked, HearsText, Hears, Stops, counted};
     ghost use Rattle.dap_json.specs.Read.{json_of};
     ghost use Rattle.dap_line.specs.Moments.{HasRoom};
     ghost use Rattle.dap_recording.specs.Reading.{IsVerdict, file_sources};
-    ghost use Rattle.dap_host.specs.PrivateKeeping.{AreAll, keeps_all};
     ghost use Rattle.dap_line.specs.Told.{said_of};
     ghost use Rattle.dap_line.specs.Written.{message_lines, refusal_line, target_line};
     ghost use Rattle.dap_line.specs.declared.told.Said.{Said};
@@ -155,12 +152,10 @@ impl Host {
             Ok(sources) => sources,
             Err(fault) => return Err(fault),
         };
-        let shared = sources.clone()?;
-        let live = Live::open(alloc, shared);
+        let live = Live::open(alloc, sources);
         let adapter = Adapter::open(alloc, limits, live)?;
         Ok(Host {
             adapter,
-            sources,
             texts,
             limits,
             longest,
@@ -322,7 +317,7 @@ impl Host {
         ensures same { self.new ≡ self.old }
     {
         match dropped_in(self.adapter.phase(), &told) {
-            Ok(None) => coming_of(&mut self.texts, &self.sources, told),
+            Ok(None) => coming_of(&mut self.texts, self.adapter.debuggee().sources(), told),
             Ok(Some(why)) => Err(Unread::Refused(Refusal::Dropped(why))),
             Err(_) => Err(Unread::OutOfMemory),
         }
@@ -403,15 +398,15 @@ impl Host {
         if !self.has_room(&coming) {
             return self.refuse(Refusal::Dropped(Dropped::TooManySources), out);
         }
-        self.tell_and_keep(alloc, coming, out)
+        self.tell_or_refuse(alloc, coming, out)
     }
 
     /// Whether there is room for sources that come.
     fn has_room(&self, coming: &Coming) -> bool
-        ensures { IsTrue result ↔ HasRoom self.now.sources coming.now }
+        ensures { IsTrue result ↔ HasRoom self.now.adapter.debuggee.sources coming.now }
     {
         match coming {
-            Coming::Sources(more) => self.sources.has_room(more),
+            Coming::Sources(more) => self.adapter.debuggee().sources().has_room(more),
             _ => true,
         }
     }
@@ -431,30 +426,8 @@ impl Host {
         }
     }
 
-    /// All sources, once those come that are told.
-    fn all_sources(&self, alloc: Global, coming: &Coming) -> Result<Option<Sources>, AllocError>
-        requires { HasRoom self.now.sources coming.now }
-        ensures { IfOk result (λ all. AreAll coming.now self.now.sources all) }
-    {
-        match coming {
-            Coming::Sources(more) => Ok(Some(self.sources.with(alloc, more)?)),
-            _ => Ok(None),
-        }
-    }
-
-    /// Keeps all sources, where what came is heard.
-    fn keep(&mut self, all: Option<Sources>, dropped: Option<Dropped>)
-        ensures { self.new ≡ keeps_all dropped all self.old }
-    {
-        if let Some(all) = all {
-            if dropped.is_none() {
-                self.sources = all;
-            }
-        }
-    }
-
-    /// Lets the adapter tell what happened, and keeps sources that were told.
-    fn tell_and_keep(
+    /// Lets the adapter tell what happened, and refuses the line where that is dropped after all.
+    fn tell_or_refuse(
         &mut self,
         alloc: Global,
         coming: Coming,
@@ -462,37 +435,12 @@ impl Host {
     ) -> Result<(), AdapterFault>
         requires going { IsGoing self.old }
         requires in_a_run { has_debuggee self.old.adapter.session.phase ≡ true }
-        requires room { HasRoom self.old.sources coming }
-        ensures tells { OnOk result (TellsAndKeeps self.old coming out.old.items out.new.items self.new) }
-        ensures going { OnOk result (IsGoing self.new) }
-        ensures stops { IfErr result (λ fault. fault ≢ AdapterFault.OutOfMemory → StopsTelling self.old coming out.old.items out.new.items self.new fault) }
-    {
-        let Ok(all) = self.all_sources(alloc, &coming) else {
-            return Err(AdapterFault::OutOfMemory);
-        };
-        let dropped = self.tell_or_refuse(alloc, coming, out)?;
-        self.keep(all, dropped);
-        Ok(())
-    }
-
-    /// Lets the adapter tell what happened, and refuses the line where that is dropped after all: why it is.
-    fn tell_or_refuse(
-        &mut self,
-        alloc: Global,
-        coming: Coming,
-        out: &mut Vec<u8>,
-    ) -> Result<Option<Dropped>, AdapterFault>
-        requires going { IsGoing self.old }
-        requires in_a_run { has_debuggee self.old.adapter.session.phase ≡ true }
-        ensures tells { IfOk result (λ dropped. TellsOrDrops self.old coming dropped out.old.items out.new.items self.new) }
+        ensures tells { OnOk result (TellsOrDrops self.old coming out.old.items out.new.items self.new) }
         ensures going { OnOk result (IsGoing self.new) }
         ensures stops { IfErr result (λ fault. fault ≢ AdapterFault.OutOfMemory → StopsTelling self.old coming out.old.items out.new.items self.new fault) }
     {
         let dropped = self.tell(alloc, coming, out)?;
-        match self.refuse_dropped(dropped, out) {
-            Ok(()) => Ok(dropped),
-            Err(fault) => Err(fault),
-        }
+        self.refuse_dropped(dropped, out)
     }
 
     /// Lets the adapter tell what happened: why it is dropped, if it is.

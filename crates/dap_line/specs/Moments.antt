@@ -1,5 +1,5 @@
 -- What a moment shows, read over the sources that there are. The format of recordings is this profile's own.
-use Rattle.std.specs.Prelude.{◌≡◌, ◌≤◌, ◌+◌, List, ◌++◌, length, Ok, Err}
+use Rattle.std.specs.Prelude.{◌≡◌, ◌≤◌, ◌+◌, List, length, Ok, Err}
 use Rattle.serde_json.specs.Data.{Data}
 use Rattle.dap_live.specs.declared.mail.Coming.{Coming}
 use Rattle.dap_live.specs.declared.mail.Coming.TheVariants as coming
@@ -42,11 +42,6 @@ Fails sources (told.Loaded more) u = IfRefused (AreBadSources more) u
 Fails sources t u = IfRefused (λ why. ⊥) u
 
 -- ---- sources that are told
-
--- those that come are behind those there are; nothing else brings sources
-abbrev pub sources_after : Coming → List RecordedSource → List RecordedSource
-sources_after (coming.Sources more) sources = sources ++ more
-sources_after _ sources = sources
 
 -- there is room for those that come
 abbrev pub HasRoom : List RecordedSource → Coming → Type 0

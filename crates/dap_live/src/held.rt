@@ -95,4 +95,11 @@ impl Live {
             mail: Mail::new(alloc),
         }
     }
+
+    /// Its sources, over which moments are read.
+    pub fn sources(&self) -> &Sources
+        ensures { result.now ≡ self.now.sources }
+    {
+        &self.sources
+    }
 }

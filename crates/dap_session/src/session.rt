@@ -131,6 +131,13 @@ impl<D: Debuggee + Drop> Session<D> {
     }
 
     /// The debuggee, as it is now.
+    pub fn debuggee(&self) -> &D
+        ensures { result.now ≡ self.now.debuggee }
+    {
+        &self.debuggee
+    }
+
+    /// The same, given out.
     pub fn into_debuggee(self) -> D
         ensures { result ≡ self.debuggee }
     {

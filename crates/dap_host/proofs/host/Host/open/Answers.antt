@@ -1,28 +1,25 @@
-use Rattle.std.proofs.Common.{refl, ap, ◌∙◌}
+use Rattle.std.proofs.Common.{refl, ◌∙◌}
 use Rattle.std.proofs.lemmas.Result.{err_from_is_err_and}
-use Rattle.dap_live.specs.LiveShown.{fresh_live}
 use Rattle.dap_host.proofs.GoingLemmas.{fresh_going}
 use Rattle.dap_host.proofs.host.Host.open.Goals as goal
 
 pub returns-in_err-texts-clause-refused : goal.returns-in_err-texts-clause-refused
 returns-in_err-texts-clause-refused c = let p = err_from_is_err_and c.from_residual.result c.from_residual.ensures.1 in rw (p.1, p.2) tt
 
-pub returns-in_err-shared-clause-refused : goal.returns-in_err-shared-clause-refused
-returns-in_err-shared-clause-refused c = let p = err_from_is_err_and c.from_residual-in_err-shared.result c.from_residual-in_err-shared.ensures.1 in rw (p.1, p.2) tt
-
 pub returns-in_err-adapter-clause-refused : goal.returns-in_err-adapter-clause-refused
 returns-in_err-adapter-clause-refused c = let p = err_from_is_err_and c.from_residual-in_err-adapter.result c.from_residual-in_err-adapter.ensures.1 in rw (p.1, p.2) tt
 
 pub returns-clause-fresh : goal.returns-clause-fresh
 returns-clause-fresh c = record {
+  sources = c.in-Ok.sources;
   reads = c.in-Ok.ensures;
   stands = c.in_ok-adapter.ensures.stands;
   session = c.in_ok-adapter.ensures.session;
-  debuggee = c.in_ok-adapter.ensures.debuggee ∙ c.open-live.ensures ∙ ap fresh_live c.in_ok-shared.ensures.cases;
+  debuggee = c.in_ok-adapter.ensures.debuggee ∙ c.open-live.ensures;
   limits_are = refl;
   longest_is = refl;
   number = refl;
 }
 
 pub returns-clause-going : goal.returns-clause-going
-returns-clause-going c = fresh_going _ c.args.limits c.in_ok-shared.shared c.in_ok-adapter.ensures.stands c.in_ok-adapter.ensures.session (c.in_ok-adapter.ensures.debuggee ∙ c.open-live.ensures) refl c.limits_are_in_range.ensures c.bodies_come_one_by_one.ensures
+returns-clause-going c = fresh_going _ c.args.limits c.in-Ok.sources c.in_ok-adapter.ensures.stands c.in_ok-adapter.ensures.session (c.in_ok-adapter.ensures.debuggee ∙ c.open-live.ensures) refl c.limits_are_in_range.ensures c.bodies_come_one_by_one.ensures
