@@ -135,7 +135,7 @@ ShowsNoMoment shows code old new = code ≡ 107 → IsNoMoment old.adapter.debug
 
 abbrev pub TellsLearned : List ℕ → List ℕ → Bool → Bool → ℕ → ℕ → YtFound → HeldAdapter → HeldAdapter → Type 0
 TellsLearned asked value known has_parts holder code found old new =
-    TellsWhere (λ told. told ≡ said.Learned asked (if known then Some value else None) (if has_parts then Some holder else None)) code found old new
+    TellsWhere (λ told. told ≡ said.Learned asked (if known then Some value else None) (if has_parts then Some holder else None) None) code found old new
 
 abbrev pub TellsSources : List ℕ → ℕ → YtFound → HeldAdapter → HeldAdapter → Type 0
 TellsSources sources code found old new = TellsWhere (λ told. AreSources (json_of sources) told) code found old new

@@ -391,7 +391,7 @@ fn value_given(
     value: &[u8],
     holder: Option<u64>,
 ) -> Result<Coming, u32>
-    ensures said { IfOk result (λ told. told ≡ said.Learned asked.now (if known then Some value.now else None) holder) }
+    ensures said { IfOk result (λ told. told ≡ said.Learned asked.now (if known then Some value.now else None) holder None) }
     ensures wanted { IsUtf8 asked.now → IsUtf8 value.now → IfErr result (λ code. code ≡ YT_NO_MEMORY) }
     ensures code { IfErr result IsCodeOfText }
 {
@@ -401,6 +401,7 @@ fn value_given(
         text,
         value: if known { Some(value) } else { None },
         holder,
+        more: None,
     })
 }
 

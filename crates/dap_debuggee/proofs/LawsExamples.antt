@@ -1,9 +1,10 @@
 -- Worked examples of the laws' tables, each shown by computation.
 use Rattle.std.proofs.Common.{◌≡◌, List, ℕ, [], ◌∷◌, codes, replicate, true, false, Option, None, Some, pos, negsuc, refl}
+use Rattle.dap_json.specs.declared.more.Member.{Member}
 use Rattle.dap_command.specs.declared.source_key.SourceKey.{SourceKey}
 use Rattle.dap_command.specs.declared.source_key.SourceKey.TheVariants.{Path, Reference}
 use Rattle.dap_debuggee.specs.Shown.{Act, Reply, to_start, to_resume, to_pause, to_poll, to_set_breakpoints, to_assign, to_end, done, refused, happened, category_name, asked_of_act}
-use Rattle.dap_debuggee.specs.Laws.{may_answer, state_after, lines_after, keeps_answers, keeps_frames, Stays, with_value, children_after, is_code, is_short, is_frame}
+use Rattle.dap_debuggee.specs.Laws.{may_answer, state_after, lines_after, keeps_answers, keeps_frames, Stays, with_assigned, children_after, is_code, is_short, is_frame}
 use Rattle.dap_command.specs.SameSource.{is_source}
 use Rattle.dap_debuggee.specs.declared.answers.State.TheVariants.{NotStarted, Running, Stopped, Gone}
 use Rattle.dap_debuggee.specs.declared.answers.How.TheVariants.{Next, Continue}
@@ -12,6 +13,7 @@ use Rattle.dap_debuggee.specs.declared.answers.Category.TheVariants.{Console, St
 use Rattle.dap_debuggee.specs.declared.answers.Frame.{Frame}
 use Rattle.dap_debuggee.specs.declared.answers.Happening.TheVariants.{Nothing, Output, Stopped as StoppedBy, Continued, Exited}
 use Rattle.dap_debuggee.specs.declared.answers.Variable.{Variable}
+use Rattle.dap_debuggee.specs.declared.answers.Assigned.{Assigned}
 
 abbrev wrote : Reply
 wrote = happened (Output Stdout (codes "x"))
@@ -87,14 +89,20 @@ acts_of_setting = (refl, refl, refl, refl, refl, refl, refl, refl)
 abbrev one : List ℕ → List ℕ → Variable
 one name value = record { name = name; value = value; holder = Some 7; more = [] }
 
--- none, another name, and of one name the first; what holds its children stays
-with_values : (with_value (codes "x") (codes "9") [] ≡ []) × (with_value (codes "x") (codes "9") (one (codes "y") (codes "1") ∷ []) ≡ one (codes "y") (codes "1") ∷ []) × (with_value (codes "x") (codes "9") (one (codes "x") (codes "1") ∷ one (codes "x") (codes "2") ∷ []) ≡ one (codes "x") (codes "9") ∷ one (codes "x") (codes "2") ∷ []) × (with_value [] (codes "9") (one [] (codes "1") ∷ []) ≡ one [] (codes "9") ∷ [])
+abbrev nine : Assigned
+nine = record { value = codes "9"; more = [] }
+
+-- none, another name, and of one name the first; what holds its children stays, and what is said beside comes with the value
+with_values : (with_assigned (codes "x") nine [] ≡ []) × (with_assigned (codes "x") nine (one (codes "y") (codes "1") ∷ []) ≡ one (codes "y") (codes "1") ∷ []) × (with_assigned (codes "x") nine (one (codes "x") (codes "1") ∷ one (codes "x") (codes "2") ∷ []) ≡ one (codes "x") (codes "9") ∷ one (codes "x") (codes "2") ∷ []) × (with_assigned [] nine (one [] (codes "1") ∷ []) ≡ one [] (codes "9") ∷ [])
 with_values = (refl, refl, refl, refl)
+
+beside_the_value : (more : List Member) → with_assigned (codes "x") (record { value = codes "9"; more = more }) (one (codes "x") (codes "1") ∷ []) ≡ record { name = codes "x"; value = codes "9"; holder = Some 7; more = more } ∷ []
+beside_the_value more = refl
 
 abbrev children_of_all : ℕ → Option (List Variable)
 children_of_all holder = Some (one (codes "x") (codes "1") ∷ [])
 
-of_one_holder : (children_after 1 (codes "x") (codes "9") children_of_all 1 ≡ Some (one (codes "x") (codes "9") ∷ [])) × (children_after 1 (codes "x") (codes "9") children_of_all 2 ≡ Some (one (codes "x") (codes "1") ∷ [])) × (children_after 1 (codes "x") (codes "9") (λ h. None) 1 ≡ None)
+of_one_holder : (children_after 1 (codes "x") nine children_of_all 1 ≡ Some (one (codes "x") (codes "9") ∷ [])) × (children_after 1 (codes "x") nine children_of_all 2 ≡ Some (one (codes "x") (codes "1") ∷ [])) × (children_after 1 (codes "x") nine (λ h. None) 1 ≡ None)
 of_one_holder = (refl, refl, refl)
 
 -- ---- ranges

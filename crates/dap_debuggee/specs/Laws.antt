@@ -3,7 +3,6 @@
 use Rattle.std.specs.Prelude.{◌≡◌, ℕ, ◌+◌, ◌%◌, ◌^◌, ◌≤◌, ℤ, pos, negsuc, int_le, Bool, true, false, ◌&&◌, nat_le, nat_lt, nat_eq, bytes_eq, List, [], ◌∷◌, length, Option, Some, None, IsTrue, if◌then◌else◌, option_map, option_and_then, Result, Ok, Err}
 use Rattle.std.specs.List.{list_all, slice_get, find}
 use Rattle.std.specs.Option.{IsSome}
-use Rattle.dap_json.specs.declared.more.Member.{Member}
 use Rattle.dap_command.specs.SameSource.{is_source}
 use Rattle.dap_command.specs.Numbers.{is_int}
 use Rattle.dap_command.specs.declared.source_key.SourceKey.{SourceKey}
@@ -17,6 +16,7 @@ use Rattle.dap_debuggee.specs.declared.answers.DebuggeeFault.{DebuggeeFault}
 use Rattle.dap_debuggee.specs.declared.answers.DebuggeeFault.TheVariants.{Refused, OutOfMemory}
 use Rattle.dap_debuggee.specs.declared.answers.Frame.{Frame}
 use Rattle.dap_debuggee.specs.declared.answers.Variable.{Variable}
+use Rattle.dap_debuggee.specs.declared.answers.Assigned.{Assigned}
 
 -- ---- what a call returned, want of memory aside
 
@@ -148,20 +148,20 @@ pub record Stands (v w : Shown) : Type 0 where
 abbrev pub variable_named : List ℕ → List Variable → Option Variable
 variable_named name variables = find (λ variable. bytes_eq name variable.name) variables
 
--- that one has the value; what holds its children stays, and what is said beside
-abbrev pub with_value : List ℕ → List ℕ → List Variable → List Variable
-with_value name value [] = []
-with_value name value (x ∷ xs) = if bytes_eq name x.name then record { name = x.name; value = value; holder = x.holder; more = x.more } ∷ xs else x ∷ with_value name value xs
+-- that one has the value, and what is said beside it; what holds its children stays
+abbrev pub with_assigned : List ℕ → Assigned → List Variable → List Variable
+with_assigned name a [] = []
+with_assigned name a (x ∷ xs) = if bytes_eq name x.name then record { name = x.name; value = a.value; holder = x.holder; more = a.more } ∷ xs else x ∷ with_assigned name a xs
 
-abbrev pub children_after : ℕ → List ℕ → List ℕ → (ℕ → Option (List Variable)) → ℕ → Option (List Variable)
-children_after holder name value before h = if nat_eq h holder then option_map (with_value name value) (before h) else before h
+abbrev pub children_after : ℕ → List ℕ → Assigned → (ℕ → Option (List Variable)) → ℕ → Option (List Variable)
+children_after holder name a before h = if nat_eq h holder then option_map (with_assigned name a) (before h) else before h
 
 -- The first variable of the name directly in the holder has the value. State and lines are as `Moves` and `SetsLines` tell; nothing else changes, but the count of acts, the last one and what texts evaluate to
-pub record SetsOneValue (holder : ℕ) (name value : List ℕ) (v w : Shown) : Type 0 where
+pub record SetsOneValue (holder : ℕ) (name : List ℕ) (a : Assigned) (v w : Shown) : Type 0 where
   pub threads : w.threads ≡ v.threads
   pub frames : (thread : ℤ) → w.frames thread ≡ v.frames thread
   pub scopes : (frame : ℕ) → w.scopes frame ≡ v.scopes frame
-  pub children : (h : ℕ) → w.children h ≡ children_after holder name value v.children h
+  pub children : (h : ℕ) → w.children h ≡ children_after holder name a v.children h
   pub assigned : (h : ℕ) (n text : List ℕ) → w.assigned h n text ≡ v.assigned h n text
   pub sources : SameSources v w
   pub verify : (source : SourceKey) (lines : List ℕ) → w.verify source lines ≡ v.verify source lines
@@ -215,12 +215,11 @@ KeepsAnswers {View} shown follows = (v w : View) (a : Act) (r : Reply) → follo
 abbrev pub KeepsFrames : {View : Type 0} → (View → Shown) → Follows View → Type 0
 KeepsFrames {View} shown follows = (v w : View) (a : Act) (r : Reply) → follows v a r w → IsTrue (keeps_frames a r) → FramesStay (shown v) (shown w)
 
--- only what is told of a variable is set, and the variable has that value then
+-- only what is told of a variable is set, and the variable has that value then, with what is said beside it
 pub record SetsWhatIsTold (v w : Shown) (holder : ℕ) (name text : List ℕ) : Type 0 where
-  pub value : List ℕ
-  pub more : List Member
-  pub told : v.assigned holder name text ≡ Some (record { value = value; more = more })
-  pub set : SetsOneValue holder name value v w
+  pub assigned : Assigned
+  pub told : v.assigned holder name text ≡ Some assigned
+  pub set : SetsOneValue holder name assigned v w
 
 abbrev pub SetsValues : {View : Type 0} → (View → Shown) → Follows View → Type 0
 SetsValues {View} shown follows = (v w : View) (holder : ℕ) (name text : List ℕ) (r : Reply) → follows v (to_assign holder name text) r w → SetsWhatIsTold (shown v) (shown w) holder name text

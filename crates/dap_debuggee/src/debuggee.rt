@@ -70,8 +70,8 @@ pub trait Debuggee {
     ) -> Result<(), AllocError>
         ensures { OnOk result (follows self.old (to_set_breakpoints source.now lines.now) done self.new) };
 
-    /// Sets the first variable of a name directly in a holder, by its object number, to the value that `assigned` tells of it.
-    /// No other variable changes, nor what `assigned` tells of any text: a debuggee for which that is not so refuses in
+    /// Sets the first variable of a name directly in a holder, by its object number, to the value that `assigned` tells of it,
+    /// with what that says beside it, such as another type. No other variable changes, nor what `assigned` tells of any text: a debuggee for which that is not so refuses in
     /// `assigned`. One that always refuses there is never asked this. It gives this call clauses of its own, those of the trait
     /// without the `requires`, which no caller could meet, and answers `AllocError`.
     ///

@@ -41,7 +41,7 @@ unheard_over (coming.Output category text) mail v = refl
 unheard_over (coming.Stopped reason thread shows later) mail v = refl
 unheard_over (coming.Continued thread) mail v = refl
 unheard_over (coming.Exited code) mail v = refl
-unheard_over (coming.Learned text value holder) mail v = refl
+unheard_over (coming.Learned text value holder more) mail v = refl
 unheard_over (coming.Variables holder variables) mail v = refl
 unheard_over (coming.Sources more) mail v = refl
 

@@ -20,7 +20,7 @@ IsComing sources (told.Output category text) c = c ≡ coming.Output category te
 IsComing sources (told.Stopped reason thread moment later) c = (shows : MomentAlone) × (read_moment sources moment ≡ Ok shows) × (c ≡ coming.Stopped reason thread shows later)
 IsComing sources (told.Continued thread) c = c ≡ coming.Continued thread
 IsComing sources (told.Exited code) c = c ≡ coming.Exited code
-IsComing sources (told.Learned text value holder) c = c ≡ coming.Learned text value holder
+IsComing sources (told.Learned text value holder more) c = c ≡ coming.Learned text value holder more
 IsComing sources (told.Variables holder variables) c = c ≡ coming.Variables holder variables
 IsComing sources (told.Loaded more) c = (read : List RecordedSource) × (sources_of more ≡ Ok read) × (c ≡ coming.Sources read)
 

@@ -1,5 +1,5 @@
 -- What a host tells: which JSON tells what, or the first bad key. The format is this profile's choice; `null` counts as absent.
-use Rattle.std.specs.Prelude.{◌≡◌, ℕ, ℤ, Bool, false, List, [], ◌∷◌, ◌++◌, codes, bytes_eq, Vec, Option, Some, None, option_and_then, option_map, Result, Ok, Err, if◌then◌else◌}
+use Rattle.std.specs.Prelude.{◌≡◌, ℕ, ℤ, Bool, false, List, [], ◌∷◌, ◌++◌, codes, bytes_eq, Vec, Option, Some, None, option_and_then, option_map, unwrap_or, Result, Ok, Err, if◌then◌else◌}
 use Rattle.serde_json.specs.Data.{Data, Items, no_items, item}
 use Rattle.serde_json.specs.Find.{as_str, as_bool, as_array}
 use Rattle.dap_json.specs.Numbers.{int_of, number_of}
@@ -83,8 +83,8 @@ variable_of d = do
   name ← required_at as_str Name d
   value ← required_at as_str Value d
   holder ← optional_at number_of Holder d
-  said ← optional_or more_of [] More d
-  Ok (record { name = name; value = value; holder = holder; more = said })
+  said ← optional_at more_of More d
+  Ok (record { name = name; value = value; holder = holder; more = unwrap_or said [] })
 
 -- each one behind those before it
 abbrev pub each_variable : Items → List Variable → Read (List Variable)
@@ -130,7 +130,8 @@ learned_in d = do
   text ← required_at as_str Text d
   value ← optional_at as_str Value d
   holder ← optional_at number_of Holder d
-  Ok (told.Learned text value holder)
+  said ← optional_at more_of More d
+  Ok (told.Learned text value holder said)
 
 -- of a holder, with these variables
 unfoldable pub variables_in : Data → Data → Read Told
@@ -228,6 +229,6 @@ happening_of (told.Output category text) = happening.Output category text
 happening_of (told.Stopped reason thread moment later) = happening.Stopped reason thread
 happening_of (told.Continued thread) = happening.Continued thread
 happening_of (told.Exited code) = happening.Exited code
-happening_of (told.Learned text value holder) = happening.Nothing
+happening_of (told.Learned text value holder more) = happening.Nothing
 happening_of (told.Variables holder variables) = happening.Nothing
 happening_of (told.Loaded sources) = happening.Nothing

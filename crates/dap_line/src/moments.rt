@@ -61,10 +61,12 @@ pub fn coming_of(texts: &mut Texts, sources: &Sources, told: Told) -> Result<Com
             text,
             value,
             holder,
+            more,
         } => Ok(Coming::Learned {
             text,
             value,
             holder,
+            more,
         }),
         Told::Variables { holder, variables } => Ok(Coming::Variables { holder, variables }),
         Told::Loaded { sources: more } => match sources_in(texts, &more) {

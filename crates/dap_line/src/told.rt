@@ -1,5 +1,5 @@
 //! What a host tells of its debugger, as it is read.
-ghost use Rattle.std.specs.Prelude.{◌≡◌, [], IfOk};
+ghost use Rattle.std.specs.Prelude.{◌≡◌, IfOk};
 ghost use Rattle.serde_json.specs.Find.{as_str, as_array};
 ghost use Rattle.serde_json.specs.View.{view, items_view};
 ghost use Rattle.dap_json.specs.Lent.{lent_data};
@@ -42,6 +42,7 @@ pub enum Told {
         text: Text,
         value: Option<Text>,
         holder: Option<u64>,
+        more: Option<More>,
     },
     Variables {
         holder: u64,
@@ -146,15 +147,17 @@ fn value_in(alloc: Global, told: &Value) -> Result<Option<Text>, Unread>
     }
 }
 
-/// What stands beside a variable.
-fn more_in(alloc: Global, told: &Value) -> Result<Result<More, HostKey>, AllocError>
-    ensures { IfOk result (λ more. more ≡ optional_or more_of [] HostKey.More (view told.now)) }
+/// What is said beside a variable or a value, where something is.
+fn said_in(alloc: Global, told: &Value) -> Result<Result<Option<More>, HostKey>, AllocError>
+    ensures { IfOk result (λ said. said ≡ optional_at more_of HostKey.More (view told.now)) }
 {
     let Some(found) = at(told, HostKey::More).found else {
-        return Ok(Ok(More::none()));
+        return Ok(Ok(None));
     };
-    let more = More::of(alloc, found)?;
-    Ok(more.ok_or(HostKey::More))
+    match More::of(alloc, found)? {
+        None => Ok(Err(HostKey::More)),
+        Some(more) => Ok(Ok(Some(more))),
+    }
 }
 
 /// The number of a holder, where there is one.
@@ -174,13 +177,13 @@ fn variable_in(alloc: Global, value: &Value) -> Result<Variable, Unread>
     let name = text_at(alloc, value, HostKey::Name)?;
     let text = text_at(alloc, value, HostKey::Value)?;
     let holder = holder_in(value)?;
-    let more = more_in(alloc, value)?;
-    let more = more?;
+    let said = said_in(alloc, value)?;
+    let said = said?;
     Ok(Variable {
         name,
         value: text,
         holder,
-        more,
+        more: said.unwrap_or(More::none()),
     })
 }
 
@@ -254,10 +257,13 @@ fn learned_in(alloc: Global, told: &Value) -> Result<Told, Unread>
     let text = text_at(alloc, told, HostKey::Text)?;
     let value = value_in(alloc, told)?;
     let holder = holder_in(told)?;
+    let said = said_in(alloc, told)?;
+    let more = said?;
     Ok(Told::Learned {
         text,
         value,
         holder,
+        more,
     })
 }
 

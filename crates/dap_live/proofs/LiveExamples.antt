@@ -1,5 +1,6 @@
 -- Worked examples of what a host's debuggee drops, answers and shows, each shown by computation.
 use Rattle.std.proofs.Common.{◌≡◌, List, ℕ, [], ◌∷◌, codes, replicate, Bool, true, false, Option, None, Some, pos, refl}
+use Rattle.dap_json.specs.declared.more.Member.{Member}
 use Rattle.dap_command.specs.declared.source_key.SourceKey.TheVariants.{Path, Reference}
 use Rattle.dap_debuggee.specs.Shown.{to_start, to_resume, to_pause, to_poll, to_set_breakpoints, to_assign, to_end, done, refused, happened}
 use Rattle.dap_debuggee.specs.declared.answers.State.{State}
@@ -10,14 +11,15 @@ use Rattle.dap_debuggee.specs.declared.answers.Happening.{Happening}
 use Rattle.dap_debuggee.specs.declared.answers.Happening.TheVariants as happening
 use Rattle.dap_live.specs.declared.held.Learned.{Learned}
 use Rattle.dap_debuggee.specs.declared.answers.Variable.{Variable}
-use Rattle.dap_debuggee.specs.Laws.{with_value}
+use Rattle.dap_debuggee.specs.declared.answers.Assigned.{Assigned}
+use Rattle.dap_debuggee.specs.Laws.{with_assigned}
 use Rattle.dap_recording.specs.Snapshot.{MomentAlone}
 use Rattle.dap_recording.specs.declared.recording.RecordedSource.{RecordedSource}
 use Rattle.dap_live.specs.declared.here.Here.{Here}
 use Rattle.dap_live.specs.declared.mail.Dropped.{Dropped}
 use Rattle.dap_live.specs.declared.mail.Dropped.TheVariants.{OutOfTurn, OutOfRange, TooManySources, Told, TooManyHolders}
 use Rattle.dap_live.specs.Dropping.{why_dropped, why_not_more, why_untold, heard}
-use Rattle.dap_live.specs.LiveShown.{LiveState, fresh_live, shown_live, told_of, value_told, evaluated, evaluation_in, threads_in, now_shown, children_in, assigned_by}
+use Rattle.dap_live.specs.LiveShown.{LiveState, fresh_live, shown_live, told_of, evaluated, evaluation_in, threads_in, now_shown, children_in, assigned_by}
 use Rattle.dap_live.specs.declared.mail.Coming.{Coming}
 use Rattle.dap_live.specs.declared.mail.Coming.TheVariants as coming
 use Rattle.dap_live.specs.declared.mail.HostAct.TheVariants as act
@@ -45,22 +47,22 @@ told = (refl, refl, refl)
 -- ---- what is shown
 
 abbrev sum : Option Learned
-sum = Some (record { text = codes "x + 1"; value = Some (codes "2"); holder = None })
+sum = Some (record { text = codes "x + 1"; value = Some (codes "2"); holder = None; more = None })
 
 -- its parts are what holder 7 has
 abbrev pair : Option Learned
-pair = Some (record { text = codes "p"; value = Some (codes "{..}"); holder = Some 7 })
+pair = Some (record { text = codes "p"; value = Some (codes "{..}"); holder = Some 7; more = None })
 
 abbrev none : Option Learned
-none = Some (record { text = codes "y"; value = None; holder = Some 7 })
+none = Some (record { text = codes "y"; value = None; holder = Some 7; more = None })
 
-texts : (value_told sum (codes "x + 1") ≡ Some (codes "2")) × (value_told sum (codes "x") ≡ None) × (value_told None (codes "x") ≡ None) × (value_told none (codes "y") ≡ None) × (told_of none (codes "x") ≡ None)
+texts : (told_of sum (codes "x + 1") ≡ sum) × (told_of sum (codes "x") ≡ None) × (told_of None (codes "x") ≡ None) × (told_of none (codes "y") ≡ none) × (told_of none (codes "x") ≡ None)
 texts = (refl, refl, refl, refl, refl)
 
 values : (evaluated (told_of sum (codes "x + 1")) None ≡ Some (record { value = codes "2"; holder = None; more = [] })) × (evaluated (told_of sum (codes "x")) (Some (record { value = codes "1"; holder = Some 3; more = [] })) ≡ Some (record { value = codes "1"; holder = Some 3; more = [] })) × (evaluated (told_of none (codes "y")) (Some (record { value = codes "1"; holder = None; more = [] })) ≡ None) × (evaluated (told_of pair (codes "p")) None ≡ Some (record { value = codes "{..}"; holder = Some 7; more = [] }))
 values = (refl, refl, refl, refl)
 
-nothing_shown : (threads_in (now_shown NotStarted None) ≡ []) × (threads_in (now_shown Running None) ≡ []) × (children_in (now_shown Stopped None) 0 ≡ None) × (assigned_by (Some (codes "2")) (codes "x") None ≡ None)
+nothing_shown : (threads_in (now_shown NotStarted None) ≡ []) × (threads_in (now_shown Running None) ≡ []) × (children_in (now_shown Stopped None) 0 ≡ None) × (assigned_by sum (codes "x") None ≡ None)
 nothing_shown = (refl, refl, refl, refl)
 
 -- ---- a moment of one frame with two scopes: the first came without its variables, the second has x
@@ -121,14 +123,27 @@ drops_of_holders : (why_untold None 0 ≡ Some OutOfTurn) × (why_untold (shows 
 drops_of_holders = (refl, refl, refl, refl, refl, refl, refl, refl, refl)
 
 -- a value that is set comes before that of the moment, and before what was told
-values_set : (children_in (with_told 1 (with_value (codes "x") (codes "9") (one (codes "1"))) (shows true)) 1 ≡ Some (one (codes "9"))) × (children_in (with_told 0 (with_value (codes "x") (codes "9") (one (codes "2"))) told_more) 0 ≡ Some (one (codes "9"))) × (assigned_by (Some (codes "9")) (codes "x") (children_in told_more 0) ≡ Some (record { value = codes "9"; more = [] })) × (assigned_by (Some (codes "9")) (codes "y") (children_in told_more 0) ≡ None) × (assigned_by None (codes "x") (children_in told_more 0) ≡ None)
+abbrev nine : Assigned
+nine = record { value = codes "9"; more = [] }
+
+values_set : (children_in (with_told 1 (with_assigned (codes "x") nine (one (codes "1"))) (shows true)) 1 ≡ Some (one (codes "9"))) × (children_in (with_told 0 (with_assigned (codes "x") nine (one (codes "2"))) told_more) 0 ≡ Some (one (codes "9"))) × (assigned_by sum (codes "x") (children_in told_more 0) ≡ Some (record { value = codes "2"; more = [] })) × (assigned_by sum (codes "y") (children_in told_more 0) ≡ None) × (assigned_by none (codes "x") (children_in told_more 0) ≡ None)
 values_set = (refl, refl, refl, refl, refl)
+
+-- what is said beside a value is told of it, and of a variable that gets it; where nothing is said, that of the variable stays
+abbrev typed : List Member → Option Learned
+typed more = Some (record { text = codes "x + 1"; value = Some (codes "2"); holder = None; more = Some more })
+
+abbrev has : List Member → Option (List Variable)
+has more = Some (record { name = codes "x"; value = codes "1"; holder = None; more = more } ∷ [])
+
+beside : (more other : List Member) → (evaluated (typed more) None ≡ Some (record { value = codes "2"; holder = None; more = more })) × (assigned_by (typed more) (codes "x") (has other) ≡ Some (record { value = codes "2"; more = more })) × (assigned_by sum (codes "x") (has other) ≡ Some (record { value = codes "2"; more = other }))
+beside more other = (refl, refl, refl)
 
 -- ---- what an act answers and leaves
 
 -- stopped, with a value of a text, after this was said
 abbrev at_stop : Bool → Option Coming → LiveState
-at_stop later said = let fresh : LiveState = fresh_live (source ∷ []) in record fresh { state = Stopped; here = shows later; learned = Some (record { text = codes "9"; value = Some (codes "9"); holder = None }); mail = record { coming = said; acts = act.Start ∷ []; dropped = Some Told } }
+at_stop later said = let fresh : LiveState = fresh_live (source ∷ []) in record fresh { state = Stopped; here = shows later; learned = Some (record { text = codes "9"; value = Some (codes "9"); holder = None; more = None }); mail = record { coming = said; acts = act.Start ∷ []; dropped = Some Told } }
 
 abbrev at : State → Option Coming → LiveState
 at state said = let stop : LiveState = at_stop true said in record stop { state = state }
@@ -149,7 +164,7 @@ abbrev halt : Coming
 halt = coming.Stopped (codes "step") (pos 3) moment false
 
 abbrev sum_is : Coming
-sum_is = coming.Learned (codes "x + 1") (Some (codes "2")) None
+sum_is = coming.Learned (codes "x + 1") (Some (codes "2")) None None
 
 -- a poll gives just what was said, or nothing where that is dropped
 polls : (reply_to to_poll (at Stopped (Some seven)) ≡ happened (happening.Exited (pos 7))) × (reply_to to_poll (at Running (Some halt)) ≡ happened (happening.Stopped (codes "step") (pos 3))) × (reply_to to_poll (at Stopped (Some halt)) ≡ happened happening.Nothing) × (reply_to to_poll (at Stopped (Some two)) ≡ happened happening.Nothing) × (reply_to to_poll (at Stopped None) ≡ happened happening.Nothing)
@@ -175,7 +190,7 @@ ends_once : (with_end (with_end (with_act act.Pause no_mail)) ≡ with_act act.E
 ends_once = (refl, refl, refl)
 
 -- what was learned is forgotten by a poll, whatever came; a pause does not
-forgets : (learned_after to_poll (at Stopped (Some seven)) ≡ None) × (learned_after to_poll (at Stopped (Some halt)) ≡ None) × (learned_after to_poll (at Stopped None) ≡ None) × (learned_after to_poll (at Stopped (Some sum_is)) ≡ sum) × (value_told (learned_after to_pause (at Running None)) (codes "9") ≡ Some (codes "9"))
+forgets : (learned_after to_poll (at Stopped (Some seven)) ≡ None) × (learned_after to_poll (at Stopped (Some halt)) ≡ None) × (learned_after to_poll (at Stopped None) ≡ None) × (learned_after to_poll (at Stopped (Some sum_is)) ≡ sum) × (learned_after to_pause (at Running None) ≡ Some (record { text = codes "9"; value = Some (codes "9"); holder = None; more = None }))
 forgets = (refl, refl, refl, refl, refl)
 
 -- what is shown stays, or has the variables that were told

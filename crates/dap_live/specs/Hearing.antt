@@ -22,7 +22,7 @@ happening_by (coming.Output category text) = happening.Output category text
 happening_by (coming.Stopped reason thread shows later) = happening.Stopped reason thread
 happening_by (coming.Continued thread) = happening.Continued thread
 happening_by (coming.Exited code) = happening.Exited code
-happening_by (coming.Learned text value holder) = happening.Nothing
+happening_by (coming.Learned text value holder more) = happening.Nothing
 happening_by (coming.Variables holder variables) = happening.Nothing
 happening_by (coming.Sources more) = happening.Nothing
 
@@ -40,7 +40,7 @@ told_by (Some c) v = unless_dropped (why_unheard c v) (happening_by c)
 
 -- nothing but what was told with it
 abbrev pub learned_with : Coming → Option Learned
-learned_with (coming.Learned text value holder) = Some (record { text = text; value = value; holder = holder })
+learned_with (coming.Learned text value holder more) = Some (record { text = text; value = value; holder = holder; more = more })
 learned_with _ = None
 
 abbrev pub learned_by : Option Coming → Option Learned

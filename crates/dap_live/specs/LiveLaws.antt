@@ -1,12 +1,13 @@
 -- What an act answers and leaves of a debuggee that a host feeds, and that each law of every debuggee is kept, whatever the host tells.
-use Rattle.std.proofs.Common.{◌≡◌, ℕ, ℤ, ◌+◌, ◌%◌, ◌^◌, Bool, true, false, nat_eq, List, [], length, map, Option, Some, None, option_map, IsTrue, if◌then◌else◌, refl, sym, ap, subst, ◌∙◌, true≢false}
+use Rattle.std.proofs.Common.{◌≡◌, ℕ, ℤ, ◌+◌, ◌%◌, ◌^◌, Bool, true, false, nat_eq, bytes_eq, List, [], length, map, Option, Some, None, option_map, IsTrue, if◌then◌else◌, refl, sym, ap, subst, ◌∙◌, true≢false}
 use Rattle.std.proofs.lemmas.Bool.{eqb-true}
 use Rattle.std.specs.Prelude.{option_and_then, unwrap_or}
 use Rattle.std.specs.List.{slice_get}
 use Rattle.std.specs.Option.{IsSome}
+use Rattle.dap_json.specs.declared.more.Member.{Member}
 use Rattle.dap_command.specs.declared.source_key.SourceKey.{SourceKey}
 use Rattle.dap_debuggee.specs.Shown.{Act, to_start, to_resume, to_pause, to_poll, to_set_breakpoints, to_assign, to_end, Reply, done, refused, happened, asked_of_act, Last}
-use Rattle.dap_debuggee.specs.Laws.{may_answer, may_happen, is_short, state_after, lines_after, keeps_answers, keeps_frames, variable_named, with_value, children_after, Stays, Counts, Remembers, Answers, Moves, SetsLines, SetsValues, KeepsAnswers, KeepsFrames, KeepsSources, FramesStay, SourcesStay, SameFrames, SameSources, NoThreads, VerifiesEach, AssignsVariables}
+use Rattle.dap_debuggee.specs.Laws.{may_answer, may_happen, is_short, state_after, lines_after, keeps_answers, keeps_frames, variable_named, with_assigned, children_after, Stays, Counts, Remembers, Answers, Moves, SetsLines, SetsValues, KeepsAnswers, KeepsFrames, KeepsSources, FramesStay, SourcesStay, SameFrames, SameSources, NoThreads, VerifiesEach, AssignsVariables}
 use Rattle.dap_debuggee.specs.StayLaws.{frames-stay, sources-stay}
 use Rattle.dap_debuggee.specs.declared.answers.State.{State}
 use Rattle.dap_debuggee.specs.declared.answers.State.TheVariants.{NotStarted, Running, Stopped, Gone}
@@ -33,7 +34,7 @@ use Rattle.dap_live.specs.declared.mail.HostAct.TheVariants as act
 use Rattle.dap_live.specs.MailState.{MailState, with_act, with_end}
 use Rattle.dap_live.specs.Dropping.{why_dropped, why_not_more, why_untold, why_too_wide, why_unheard, unless_dropped}
 use Rattle.dap_live.specs.Hearing.{happening_by, why_not_heard, told_by, learned_by, with_told, here_with, here_by, sources_with, sources_by}
-use Rattle.dap_live.specs.LiveShown.{LiveState, shown_live, now_shown, threads_in, frames_in, scopes_in, children_in, evaluation_in, told_of, value_told, evaluated, assigned_by}
+use Rattle.dap_live.specs.LiveShown.{LiveState, shown_live, now_shown, threads_in, frames_in, scopes_in, children_in, evaluation_in, told_of, evaluated, assigned_by}
 
 -- ---- what is answered
 
@@ -76,13 +77,13 @@ abbrev pub set_after : Act → List (OfSource ℕ) → List (OfSource ℕ)
 set_after (to_set_breakpoints source lines) set = with_set source lines (of_others source set)
 set_after _ set = set
 
--- the value that the host told of a text, where there is one
-abbrev pub value_for : List ℕ → LiveState → List ℕ
-value_for text v = unwrap_or (value_told v.learned text) []
+-- what a variable gets by a text, where it gets something
+abbrev pub assigned_for : ℕ → List ℕ → List ℕ → LiveState → Assigned
+assigned_for holder name text v = unwrap_or ((shown_live v).assigned holder name text) (record { value = []; more = [] })
 
--- the variables of a holder, where it has some; the first of the name has the value that the host told of the text
+-- the variables of a holder, where it has some; the first of the name has what it gets by the text
 abbrev pub variables_set : ℕ → List ℕ → List ℕ → LiveState → List Variable
-variables_set holder name text v = with_value name (value_for text v) (unwrap_or (children_in (now_shown v.state v.here) holder) [])
+variables_set holder name text v = with_assigned name (assigned_for holder name text v) (unwrap_or (children_in (now_shown v.state v.here) holder) [])
 
 -- by a poll what was heard is shown, and a variable that is set has its value; else what is shown stays
 abbrev pub here_after : Act → LiveState → Option Here
@@ -106,7 +107,7 @@ mail_after (to_resume how thread) done v = with_act (act.Resume how thread) v.ma
 mail_after to_pause done v = with_act act.Pause v.mail
 mail_after to_poll reply v = record { coming = None; acts = v.mail.acts; dropped = why_not_heard v.mail.coming v }
 mail_after (to_set_breakpoints source lines) reply v = with_act (act.SetBreakpoints source lines) v.mail
-mail_after (to_assign holder name text) reply v = with_act (act.Assign holder name (value_for text v)) v.mail
+mail_after (to_assign holder name text) reply v = with_act (act.Assign holder name (assigned_for holder name text v).value) v.mail
 mail_after to_end reply v = with_end v.mail
 mail_after _ _ v = v.mail
 
@@ -270,7 +271,7 @@ may_tell_of (coming.Stopped reason thread shows later) v =
     may_unless v.state h unheard (λ is. not_dropped (may_happen v.state h) (is_short h) (first_none (why_dropped v.state h) (why_too_wide shows v.sources) is))
 may_tell_of (coming.Continued thread) v = may_dropped v.state (happening.Continued thread)
 may_tell_of (coming.Exited code) v = may_dropped v.state (happening.Exited code)
-may_tell_of (coming.Learned text value holder) v = may_nothing v.state
+may_tell_of (coming.Learned text value holder more) v = may_nothing v.state
 may_tell_of (coming.Variables holder variables) v = may_unless v.state happening.Nothing (why_unheard (coming.Variables holder variables) v) (λ is. may_nothing v.state)
 may_tell_of (coming.Sources more) v = may_unless v.state happening.Nothing (why_unheard (coming.Sources more) v) (λ is. may_nothing v.state)
 
@@ -438,7 +439,7 @@ heard_stays v w (coming.Stopped reason thread shows later) None state is here k 
 heard_stays v w (coming.Stopped reason thread shows later) (Some x) state is here k = shown_stays v w state here
 heard_stays v w (coming.Continued thread) unheard state is here k = shown_stays v w state here
 heard_stays v w (coming.Exited code) unheard state is here k = shown_stays v w state here
-heard_stays v w (coming.Learned text value holder) unheard state is here k = shown_stays v w state here
+heard_stays v w (coming.Learned text value holder more) unheard state is here k = shown_stays v w state here
 heard_stays v w (coming.Variables holder variables) None state is here k = told_stays v w holder variables state is here
 heard_stays v w (coming.Variables holder variables) (Some x) state is here k = shown_stays v w state here
 heard_stays v w (coming.Sources more) unheard state is here k = shown_stays v w state here
@@ -473,7 +474,7 @@ more_stays v w (coming.Output category text) unheard are = list_stays v w are
 more_stays v w (coming.Stopped reason thread shows later) unheard are = list_stays v w are
 more_stays v w (coming.Continued thread) unheard are = list_stays v w are
 more_stays v w (coming.Exited code) unheard are = list_stays v w are
-more_stays v w (coming.Learned text value holder) unheard are = list_stays v w are
+more_stays v w (coming.Learned text value holder more) unheard are = list_stays v w are
 more_stays v w (coming.Variables holder variables) unheard are = list_stays v w are
 more_stays v w (coming.Sources more) None are = record {
   sources = λ index x given. ap (λ xs. slice_get (map source_shown xs) index) are ∙ shown-stay v.sources more index x given;
@@ -507,8 +508,8 @@ keeps_answers-live v w a r f k =
       frames = same_frames v w same;
       evaluate = λ frame text. ap (λ l. evaluated (told_of l text) (evaluation_in (now_shown w.state w.here) frame text)) known
           ∙ ap (λ o. evaluated (told_of v.learned text) (evaluation_in o frame text)) same;
-      assigned = λ holder name text. ap (λ l. assigned_by (value_told l text) name (children_in (now_shown w.state w.here) holder)) known
-          ∙ ap (λ o. assigned_by (value_told v.learned text) name (children_in o holder)) same;
+      assigned = λ holder name text. ap (λ l. assigned_by (told_of l text) name (children_in (now_shown w.state w.here) holder)) known
+          ∙ ap (λ o. assigned_by (told_of v.learned text) name (children_in o holder)) same;
       sources = same_sources v w sources;
       verify = λ source lines. ap (λ xs. Some (lines_verified xs source lines)) sources;
     }
@@ -519,81 +520,84 @@ no_threads-live v = (λ is. ap (λ s. threads_in (now_shown s v.here)) is, λ is
 pub verifies_each-live : VerifiesEach shown_live
 verifies_each-live v source lines answers is = sym (ap (λ o. length (unwrap_or o [])) is) ∙ each-verified v.sources source lines
 
-variable_there : (told : Option (List ℕ)) (name : List ℕ) (o : Option (List Variable)) → IsSome (assigned_by told name o) → IsSome (option_and_then (variable_named name) o)
+there_by : (value : Option (List ℕ)) (more : Option (List Member)) (name : List ℕ) (o : Option (List Variable)) → IsSome (option_and_then (λ text. assigned_of name text more o) value) → IsSome (option_and_then (variable_named name) o)
+there_by None more name o h = absurd (cc h)
+there_by (Some value) more name o h = assigned-there o name value more h
+
+variable_there : (told : Option Learned) (name : List ℕ) (o : Option (List Variable)) → IsSome (assigned_by told name o) → IsSome (option_and_then (variable_named name) o)
 variable_there None name o h = absurd (cc h)
-variable_there (Some value) name o h = assigned-there o name value h
+variable_there (Some l) name o h = there_by l.value l.more name o h
 
 pub assigns_variables-live : AssignsVariables shown_live
-assigns_variables-live v holder name text h = variable_there (value_told v.learned text) name (children_in (now_shown v.state v.here) holder) h
+assigns_variables-live v holder name text h = variable_there (told_of v.learned text) name (children_in (now_shown v.state v.here) holder) h
 
 -- ---- a value that is set
 
--- the variable is told of, with its value
-value_there : (o : Option Variable) (value : List ℕ) → IsSome o → (let f : Variable → Assigned = (λ variable. record { value = value; more = [] }) in option_map f o ≡ Some (record { value = value; more = [] }))
-value_there None value there = absurd (cc there)
-value_there (Some x) value there = refl
-
 -- its holder has that list
-set_by : (b : Bool) (o before : Option (List Variable)) (name value : List ℕ) (xs : List Variable) → (b ≡ true → before ≡ o) → o ≡ Some xs
-    → (if b then Some (with_value name value xs) else before) ≡ (if b then option_map (with_value name value) before else before)
-set_by true o before name value xs same is = ap (option_map (with_value name value)) (sym (same refl ∙ is))
-set_by false o before name value xs same is = refl
+set_by : (b : Bool) (o before : Option (List Variable)) (name : List ℕ) (a : Assigned) (xs : List Variable) → (b ≡ true → before ≡ o) → o ≡ Some xs
+    → (if b then Some (with_assigned name a xs) else before) ≡ (if b then option_map (with_assigned name a) before else before)
+set_by true o before name a xs same is = ap (option_map (with_assigned name a)) (sym (same refl ∙ is))
+set_by false o before name a xs same is = refl
 
-children_set : (o : Option Here) (holder h : ℕ) (name value : List ℕ) (xs : List Variable) → children_in o holder ≡ Some xs
-    → children_in (with_told holder (with_value name value xs) o) h ≡ children_after holder name value (children_in o) h
-children_set None holder h name value xs is = absurd (cc is)
-children_set (Some here) holder h name value xs is =
-    children_told (nat_eq h holder) here holder h (with_value name value xs) refl
-    ∙ set_by (nat_eq h holder) (children_in (Some here) holder) (children_in (Some here) h) name value xs (λ e. ap (children_in (Some here)) (eqb-true h holder e)) is
+children_set : (o : Option Here) (holder h : ℕ) (name : List ℕ) (a : Assigned) (xs : List Variable) → children_in o holder ≡ Some xs
+    → children_in (with_told holder (with_assigned name a xs) o) h ≡ children_after holder name a (children_in o) h
+children_set None holder h name a xs is = absurd (cc is)
+children_set (Some here) holder h name a xs is =
+    children_told (nat_eq h holder) here holder h (with_assigned name a xs) refl
+    ∙ set_by (nat_eq h holder) (children_in (Some here) holder) (children_in (Some here) h) name a xs (λ e. ap (children_in (Some here)) (eqb-true h holder e)) is
 
--- of any text that the host told
-same_assigned : (told : Option (List ℕ)) (b : Bool) (o : Option (List Variable)) (name value n : List ℕ) → assigned_by told n (if b then option_map (with_value name value) o else o) ≡ assigned_by told n o
-same_assigned None b o name value n = refl
-same_assigned (Some text) b o name value n = assigned-by b o name value n text
+-- what any text gives a variable stays once one was set: the host told of one text alone
+same_value : (value : Option (List ℕ)) (more : Option (List Member)) (b : Bool) (o there : Option (List Variable)) (name n : List ℕ) (a : Assigned) → option_and_then (λ text. assigned_of name text more there) value ≡ Some a → (b ≡ true → o ≡ there)
+    → option_and_then (λ text. assigned_of n text more (if b then option_map (with_assigned name a) o else o)) value ≡ option_and_then (λ text. assigned_of n text more o) value
+same_value None more b o there name n a is same = refl
+same_value (Some value) more b o there name n a is same = assigned-by b o there name value n value more a is same
+
+same_if : (c d : Bool) (l : Learned) (b : Bool) (o there : Option (List Variable)) (name n : List ℕ) (a : Assigned) → assigned_by (if c then Some l else None) name there ≡ Some a → (b ≡ true → o ≡ there)
+    → assigned_by (if d then Some l else None) n (if b then option_map (with_assigned name a) o else o) ≡ assigned_by (if d then Some l else None) n o
+same_if c false l b o there name n a is same = refl
+same_if false true l b o there name n a is same = absurd (cc is)
+same_if true true l b o there name n a is same = same_value l.value l.more b o there name n a is same
+
+same_assigned : (learned : Option Learned) (text given : List ℕ) (b : Bool) (o there : Option (List Variable)) (name n : List ℕ) (a : Assigned) → assigned_by (told_of learned text) name there ≡ Some a → (b ≡ true → o ≡ there)
+    → assigned_by (told_of learned given) n (if b then option_map (with_assigned name a) o else o) ≡ assigned_by (told_of learned given) n o
+same_assigned None text given b o there name n a is same = refl
+same_assigned (Some l) text given b o there name n a is same = same_if (bytes_eq text l.text) (bytes_eq given l.text) l b o there name n a is same
 
 -- what is set was told, in a holder that is shown
-is_told : (told : Option (List ℕ)) (name : List ℕ) (o : Option (List Variable)) → IsSome (assigned_by told name o) → told ≡ Some (unwrap_or told [])
-is_told None name o h = absurd (cc h)
-is_told (Some value) name o h = refl
+is_told : (o : Option Assigned) (other : Assigned) → IsSome o → o ≡ Some (unwrap_or o other)
+is_told None other h = absurd (cc h)
+is_told (Some a) other h = refl
 
-is_shown : (told : Option (List ℕ)) (name : List ℕ) (o : Option (List Variable)) → IsSome (assigned_by told name o) → o ≡ Some (unwrap_or o [])
-is_shown None name o h = absurd (cc h)
-is_shown (Some value) name None h = absurd (cc h)
-is_shown (Some value) name (Some xs) h = refl
-
-is_named : (told : Option (List ℕ)) (name : List ℕ) (o : Option (List Variable)) → IsSome (assigned_by told name o) → IsSome (variable_named name (unwrap_or o []))
-is_named None name o h = absurd (cc h)
-is_named (Some value) name None h = absurd (cc h)
-is_named (Some value) name (Some xs) h = assigned-there (Some xs) name value h
+is_shown : (o : Option (List Variable)) (name : List ℕ) → IsSome (option_and_then (variable_named name) o) → o ≡ Some (unwrap_or o [])
+is_shown None name h = absurd (cc h)
+is_shown (Some xs) name h = refl
 
 pub sets_values-live : SetsValues shown_live FollowsLive
 sets_values-live v w holder name text r f =
     let before = now_shown v.state v.here in
-    let told : Option (List ℕ) = value_told v.learned text in
     let there : Option (List Variable) = children_in before holder in
-    let value : List ℕ = value_for text v in
+    let a : Assigned = assigned_for holder name text v in
     let variables : List Variable = unwrap_or there [] in
     let changed : List Variable = variables_set holder name text v in
-    let known_value : told ≡ Some value = is_told told name there f.asked in
-    let has : there ≡ Some variables = is_shown told name there f.asked in
+    let told : (shown_live v).assigned holder name text ≡ Some a = is_told ((shown_live v).assigned holder name text) (record { value = []; more = [] }) f.asked in
+    let has : there ≡ Some variables = is_shown there name (assigns_variables-live v holder name text f.asked) in
     let shown : now_shown w.state w.here ≡ with_told holder changed before =
     ap (λ (u : LiveState). now_shown u.state u.here) f.view ∙ ap (λ s. now_shown s (with_told holder changed v.here)) (same_assigns v.state holder name text r) ∙ told_now v.state v.here holder changed in
     let known : w.learned ≡ v.learned = ap (λ (u : LiveState). u.learned) f.view in
     let sources : w.sources ≡ v.sources = ap (λ (u : LiveState). u.sources) f.view in
-    let children : (h : ℕ) → children_in (now_shown w.state w.here) h ≡ children_after holder name value (children_in before) h =
-    λ h. ap (λ o. children_in o h) shown ∙ children_set before holder h name value variables has in
+    let children : (h : ℕ) → children_in (now_shown w.state w.here) h ≡ children_after holder name a (children_in before) h =
+    λ h. ap (λ o. children_in o h) shown ∙ children_set before holder h name a variables has in
     record {
-      value = value;
-      more = [];
-      told = ap (λ t. assigned_by t name there) known_value ∙ ap (assigned_of name value) has ∙ value_there (variable_named name variables) value (is_named told name there f.asked);
+      assigned = a;
+      told = told;
       set = record {
         threads = ap threads_in shown ∙ threads_told before holder changed;
         frames = λ thread. ap (λ o. frames_in o thread) shown ∙ frames_told before holder changed thread;
         scopes = λ frame. ap (λ o. scopes_in o frame) shown ∙ scopes_told before holder changed frame;
         children = children;
-        assigned = λ h called given. ap (λ l. assigned_by (value_told l given) called (children_in (now_shown w.state w.here) h)) known
-            ∙ ap (assigned_by (value_told v.learned given) called) (children h)
-            ∙ same_assigned (value_told v.learned given) (nat_eq h holder) (children_in before h) name value called;
+        assigned = λ h called given. ap (λ l. assigned_by (told_of l given) called (children_in (now_shown w.state w.here) h)) known
+            ∙ ap (assigned_by (told_of v.learned given) called) (children h)
+            ∙ same_assigned v.learned text given (nat_eq h holder) (children_in before h) there name called a told (λ e. ap (children_in before) (eqb-true h holder e));
         sources = same_sources v w sources;
         verify = λ source lines. ap (λ xs. Some (lines_verified xs source lines)) sources;
       };

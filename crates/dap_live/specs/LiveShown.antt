@@ -1,6 +1,6 @@
 -- What a debuggee that a host feeds is seen as, and what it shows: what the host told last. Its mail is not shown.
 -- This profile's choice.
-use Rattle.std.specs.Prelude.{ℕ, ℤ, ◌≤◌, Bool, ◌&&◌, List, [], ◌∷◌, length, map, Option, Some, None, option_map, option_and_then, bytes_eq, if◌then◌else◌}
+use Rattle.std.specs.Prelude.{ℕ, ℤ, ◌≤◌, Bool, ◌&&◌, List, [], ◌∷◌, length, map, Option, Some, None, option_map, option_and_then, unwrap_or, bytes_eq, if◌then◌else◌}
 use Rattle.dap_debuggee.specs.Shown.{Shown, Last}
 use Rattle.dap_debuggee.specs.Laws.{variable_named}
 use Rattle.dap_debuggee.specs.declared.answers.State.{State}
@@ -100,17 +100,15 @@ abbrev pub told_of : Option Learned → List ℕ → Option Learned
 told_of None text = None
 told_of (Some l) text = if bytes_eq text l.text then Some l else None
 
-abbrev pub value_told : Option Learned → List ℕ → Option (List ℕ)
-value_told learned text = option_and_then (λ l. l.value) (told_of learned text)
-
 -- what the host told comes before what is shown, also that there is no value
 abbrev pub evaluated : Option Learned → Option Evaluation → Option Evaluation
 evaluated None shown = shown
-evaluated (Some l) shown = option_map (λ value. record { value = value; holder = l.holder; more = [] }) l.value
+evaluated (Some l) shown = option_map (λ value. record { value = value; holder = l.holder; more = unwrap_or l.more [] }) l.value
 
--- a variable that is shown, where the host told what the text comes to
-abbrev pub assigned_by : Option (List ℕ) → List ℕ → Option (List Variable) → Option Assigned
-assigned_by told name variables = option_and_then (λ value. assigned_of name value variables) told
+-- a variable that is shown gets what the host told of the text, where that has a value
+abbrev pub assigned_by : Option Learned → List ℕ → Option (List Variable) → Option Assigned
+assigned_by None name variables = None
+assigned_by (Some l) name variables = option_and_then (λ value. assigned_of name value l.more variables) l.value
 
 abbrev pub shown_live : LiveState → Shown
 shown_live v = record {
@@ -123,7 +121,7 @@ shown_live v = record {
   scopes = scopes_in (now_shown v.state v.here);
   children = children_in (now_shown v.state v.here);
   evaluate = λ frame text. evaluated (told_of v.learned text) (evaluation_in (now_shown v.state v.here) frame text);
-  assigned = λ holder name text. assigned_by (value_told v.learned text) name (children_in (now_shown v.state v.here) holder);
+  assigned = λ holder name text. assigned_by (told_of v.learned text) name (children_in (now_shown v.state v.here) holder);
   sources = map source_shown v.sources;
   content = text_at v.sources;
   verify = λ source lines. Some (lines_verified v.sources source lines);

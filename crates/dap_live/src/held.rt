@@ -3,7 +3,7 @@
 use crate::here::Here;
 use crate::mail::{Dropped, Mail};
 use dap_debuggee::{Asked, Happening, State};
-use dap_json::Text;
+use dap_json::{More, Text};
 use dap_recording::Sources;
 use dap_tables::SourceMap;
 use std::alloc::Global;
@@ -24,6 +24,8 @@ pub(crate) struct Learned {
     pub(crate) value: Option<Text>,
     /// What holds the parts of the value.
     pub(crate) holder: Option<u64>,
+    /// What is said beside the value.
+    pub(crate) more: Option<More>,
 }
 
 /// What comes of what a host says.

@@ -38,6 +38,16 @@ fn copied(happening: &Happening) -> Result<Happening, AllocError>
     }
 }
 
+/// What is said beside the value of a text.
+fn said_beside(learned: &Learned) -> Result<Option<More>, AllocError>
+    ensures { IfOk result (λ said. said ≡ learned.now.more) }
+{
+    match &learned.more {
+        None => Ok(None),
+        Some(more) => Ok(Some(more.clone()?)),
+    }
+}
+
 /// How an act is remembered.
 fn asked_of(act: &HostAct) -> Asked
     ensures { result ≡ asked_of_act act.now }
@@ -93,8 +103,8 @@ impl Live {
     ghost use Rattle.dap_live.specs.declared.mail.HostAct.{HostAct};
     ghost use Rattle.dap_live.specs.Dropping.{why_untold};
     ghost use Rattle.dap_live.specs.Hearing.{with_told};
-    ghost use Rattle.dap_live.specs.LiveLaws.{FollowsLive, noted, value_for, variables_set};
-    ghost use Rattle.dap_live.specs.LiveShown.{shown_live, IsFew, now_shown, children_in, told_of, value_told, with_mail};
+    ghost use Rattle.dap_live.specs.LiveLaws.{FollowsLive, noted, assigned_for, variables_set};
+    ghost use Rattle.dap_live.specs.LiveShown.{shown_live, IsFew, now_shown, children_in, told_of, with_mail};
     ghost use Rattle.dap_live.specs.MailState.{with_act};
     ghost use Rattle.dap_live.specs.PrivateHeld.{last_of, done_by, with_here, with_sources, with_learned};
     ghost use Rattle.dap_live.specs.PrivateHearing.{polled, dropped_so, heard_in, after_happening, heard_of, after_hearing};
@@ -155,17 +165,30 @@ impl Live {
         }
     }
 
-    /// The value that the host told of a text.
-    fn value_of(&self, text: &str) -> Option<&Text>
-        ensures { option_map (λ value. value.now) result ≡ value_told self.now.learned text.now }
+    /// What a variable gets by a text, where it gets something.
+    fn assigned_to(
+        &self,
+        holder: u64,
+        name: &str,
+        text: &str,
+    ) -> Result<Option<Assigned>, AllocError>
+        ensures { IfOk result (λ assigned. assigned ≡ (shown_live self.now).assigned holder name.now text.now) }
     {
-        match self.told(text) {
-            None => None,
-            Some(learned) => match &learned.value {
-                None => None,
-                Some(value) => Some(value),
-            },
-        }
+        let Some(learned) = self.told(text) else {
+            return Ok(None);
+        };
+        let Some(value) = &learned.value else {
+            return Ok(None);
+        };
+        let Some(variables) = self.children_at(holder) else {
+            return Ok(None);
+        };
+        let Some(variable) = variables::named(variables, name) else {
+            return Ok(None);
+        };
+        let said = said_beside(learned)?;
+        let assigned = variables::assigned_to(variable, value.clone()?, said)?;
+        Ok(Some(assigned))
     }
 
     /// Nothing happened, and the host may have told what a text comes to.
@@ -312,10 +335,12 @@ impl Live {
                 text,
                 value,
                 holder,
+                more,
             } => Ok(self.see_nothing(Some(Learned {
                 text,
                 value,
                 holder,
+                more,
             }))),
             Coming::Variables { holder, variables } => self.see_variables(holder, variables),
             Coming::Sources(more) => self.see_sources(alloc, more),
@@ -359,7 +384,7 @@ impl Live {
         self.ask(act)
     }
 
-    /// The act that sets a variable to the value that the host told of a text, and what its holder has then.
+    /// The act that sets a variable to what it gets by a text, and what its holder has then.
     fn act_and_variables(
         &self,
         alloc: Global,
@@ -368,10 +393,10 @@ impl Live {
         text: &str,
     ) -> Result<(HostAct, Vec<Variable>), AllocError>
         requires { IsSome ((shown_live self.now).assigned holder name.now text.now) }
-        ensures act { IfOk result (λ set. set.0 ≡ HostAct.Assign holder name.now (value_for text.now self.now)) }
+        ensures act { IfOk result (λ set. set.0 ≡ HostAct.Assign holder name.now (assigned_for holder name.now text.now self.now).value) }
         ensures changed { IfOk result (λ set. set.1.items ≡ variables_set holder name.now text.now self.now) }
     {
-        let Some(value) = self.value_of(text) else {
+        let Some(assigned) = self.assigned_to(holder, name, text)? else {
             unreachable!()
         };
         let Some(variables) = self.children_at(holder) else {
@@ -380,13 +405,13 @@ impl Live {
         let act = HostAct::Assign {
             holder,
             name: Text::copied(alloc, name)?,
-            value: value.clone()?,
+            value: assigned.value.clone()?,
         };
-        let changed = variables::with_value(alloc, variables, name, value.as_str())?;
+        let changed = variables::with_assigned(alloc, variables, name, &assigned)?;
         Ok((act, changed))
     }
 
-    /// Sets a variable to the value that the host told of a text.
+    /// Sets a variable to what it gets by a text.
     fn set_value(
         &mut self,
         alloc: Global,
@@ -556,7 +581,7 @@ impl Debuggee for Live {
                 Some(value) => Ok(Evaluation {
                     value: value.clone()?,
                     holder: learned.holder,
-                    more: More::none(),
+                    more: said_beside(learned)?.unwrap_or(More::none()),
                 }),
             };
         }
@@ -573,18 +598,9 @@ impl Debuggee for Live {
         name: &str,
         text: &str,
     ) -> Result<Assigned, DebuggeeFault> {
-        let Some(value) = self.value_of(text) else {
-            return Err(DebuggeeFault::Refused);
-        };
-        let Some(variables) = self.children_at(holder) else {
-            return Err(DebuggeeFault::Refused);
-        };
-        match variables::named(variables, name) {
+        match self.assigned_to(holder, name, text)? {
             None => Err(DebuggeeFault::Refused),
-            Some(_) => Ok(Assigned {
-                value: value.clone()?,
-                more: More::none(),
-            }),
+            Some(assigned) => Ok(assigned),
         }
     }
 

@@ -10,7 +10,7 @@ ghost use Rattle.dap_live.specs.PrivateHeld.{acts_held};
 
 use dap_command::SourceKey;
 use dap_debuggee::{Category, How, Variable};
-use dap_json::{List, Text};
+use dap_json::{List, More, Text};
 use dap_recording::{Snapshot, Sources};
 use std::alloc::{AllocError, Global};
 use std::marker::Model;
@@ -48,6 +48,8 @@ pub enum Coming {
         value: Option<Text>,
         /// What holds the parts of the value: a holder of the moment, or one whose variables are told.
         holder: Option<u64>,
+        /// What is said beside the value. `None` says nothing: a variable that gets it keeps what is said beside its own.
+        more: Option<More>,
     },
     /// The variables of a holder that has none yet, until the next stop: one of a moment of which more is told later, of a
     /// variable, or of a value. The moment's holders are counted from 0, in the order in which it was read; others are any numbers

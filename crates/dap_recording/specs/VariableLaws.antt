@@ -1,13 +1,14 @@
 -- What a map from holders to their variables has once a list is put in, and what can be set of variables once a value is.
 use Rattle.std.proofs.Common.{◌≡◌, ℕ, Bool, true, false, nat_eq, nat_lt, bytes_eq, eq-eqb, List, [], ◌∷◌, Option, Some, None, option_map, if◌then◌else◌, refl, sym, ap, subst}
-use Rattle.std.specs.Prelude.{option_and_then}
+use Rattle.std.specs.Prelude.{option_and_then, unwrap_or}
 use Rattle.std.specs.List.{find}
 use Rattle.std.specs.Option.{IsSome}
 use Rattle.std.proofs.lemmas.Bool.{eqb-true}
-use Rattle.dap_debuggee.specs.Laws.{variable_named, with_value}
+use Rattle.dap_json.specs.declared.more.Member.{Member}
+use Rattle.dap_debuggee.specs.Laws.{variable_named, with_assigned}
 use Rattle.dap_debuggee.specs.declared.answers.Variable.{Variable}
 use Rattle.dap_debuggee.specs.declared.answers.Assigned.{Assigned}
-use Rattle.dap_recording.specs.Variables.{OfHolder, variables_at, with_variables, assigned_of}
+use Rattle.dap_recording.specs.Variables.{OfHolder, variables_at, with_variables, assigned_to, assigned_of}
 
 -- ---- variables that are put in
 
@@ -35,43 +36,58 @@ variables-of_others holder h xs (c ∷ changed) other = else-by (nat_lt holder c
 
 -- ---- a value that is set
 
--- the value is the text, of a variable that is there
-value-is : (o : Option Variable) (text : List ℕ) (a : Assigned) → option_map (λ variable. record { value = text; more = [] }) o ≡ Some a → a.value ≡ text
-value-is None text a e = absurd (cc e)
-value-is (Some x) text a e = let same : (let out : Assigned = record { value = text; more = [] } in out) ≡ a = cc in sym (ap (λ (y : Assigned). y.value) same)
+-- where something is said of a variable that is there, it is this
+said-is : (o : Option Variable) (text : List ℕ) (said : Option (List Member)) (a : Assigned) → option_map (assigned_to text said) o ≡ Some a → (x : Variable) × (o ≡ Some x) × (assigned_to text said x ≡ a)
+said-is None text said a e = absurd (cc e)
+said-is (Some x) text said a e = (x, refl, some_same (assigned_to text said x) a e)
 
-pub named-in : (o : Option (List Variable)) (name text : List ℕ) (a : Assigned) → assigned_of name text o ≡ Some a → (xs : List Variable) × (o ≡ Some xs) × (a.value ≡ text)
-named-in None name text a e = absurd (cc e)
-named-in (Some xs) name text a e = (xs, refl, value-is (variable_named name xs) text a e)
+pub named-in : (o : Option (List Variable)) (name text : List ℕ) (said : Option (List Member)) (a : Assigned) → assigned_of name text said o ≡ Some a → (xs : List Variable) × (o ≡ Some xs)
+named-in None name text said a e = absurd (cc e)
+named-in (Some xs) name text said a e = (xs, refl)
+
+-- what is said of a variable to which the same was assigned is said of it before
+again : (text value : List ℕ) (said : Option (List Member)) (x : Variable) → assigned_to text said (record { name = x.name; value = value; holder = x.holder; more = unwrap_or said x.more }) ≡ assigned_to text said x
+again text value None x = refl
+again text value (Some more) x = refl
+
+set-again : (text value : List ℕ) (said : Option (List Member)) (x : Variable) (a : Assigned) → assigned_to value said x ≡ a → assigned_to text said (record { name = x.name; value = a.value; holder = x.holder; more = a.more }) ≡ assigned_to text said x
+set-again text value said x a is = subst (λ (b : Assigned). assigned_to text said (record { name = x.name; value = b.value; holder = x.holder; more = b.more }) ≡ assigned_to text said x) is (again text value said x)
 
 -- the names stay, and so what can be set
-head-by : (b c : Bool) (x y : Variable) (xs ys : List Variable) (n text : List ℕ) → (let f : Variable → Assigned = (λ variable. record { value = text; more = [] }) in option_map f (find (λ variable. bytes_eq n variable.name) xs) ≡ option_map f (find (λ variable. bytes_eq n variable.name) ys))
-    → (let f : Variable → Assigned = (λ variable. record { value = text; more = [] }) in option_map f (if c then Some x else find (λ variable. bytes_eq n variable.name) xs) ≡ option_map f (if c then Some y else find (λ variable. bytes_eq n variable.name) ys))
-head-by b true x y xs ys n text rest = refl
-head-by b false x y xs ys n text rest = rest
+head-by : (b : Bool) (x y : Variable) (xs : List Variable) (n text : List ℕ) (said : Option (List Member)) → assigned_to text said x ≡ assigned_to text said y
+    → option_map (assigned_to text said) (if b then Some x else find (λ variable. bytes_eq n variable.name) xs) ≡ option_map (assigned_to text said) (if b then Some y else find (λ variable. bytes_eq n variable.name) xs)
+head-by true x y xs n text said same = ap (λ (z : Assigned). Some z) same
+head-by false x y xs n text said same = refl
 
-names-by : (b : Bool) (x : Variable) (xs : List Variable) (name value n text : List ℕ)
-    → (let f : Variable → Assigned = (λ variable. record { value = text; more = [] }) in option_map f (variable_named n (with_value name value xs)) ≡ option_map f (variable_named n xs))
-    → (let f : Variable → Assigned = (λ variable. record { value = text; more = [] }) in option_map f (variable_named n (if b then record { name = x.name; value = value; holder = x.holder; more = x.more } ∷ xs else x ∷ with_value name value xs)) ≡ option_map f (variable_named n (x ∷ xs)))
-names-by true x xs name value n text rest = head-by true (bytes_eq n x.name) (record { name = x.name; value = value; holder = x.holder; more = x.more }) x xs xs n text refl
-names-by false x xs name value n text rest = head-by false (bytes_eq n x.name) x x (with_value name value xs) xs n text rest
+tail-by : (b : Bool) (x : Variable) (xs ys : List Variable) (n text : List ℕ) (said : Option (List Member))
+    → option_map (assigned_to text said) (find (λ variable. bytes_eq n variable.name) xs) ≡ option_map (assigned_to text said) (find (λ variable. bytes_eq n variable.name) ys)
+    → option_map (assigned_to text said) (if b then Some x else find (λ variable. bytes_eq n variable.name) xs) ≡ option_map (assigned_to text said) (if b then Some x else find (λ variable. bytes_eq n variable.name) ys)
+tail-by true x xs ys n text said rest = refl
+tail-by false x xs ys n text said rest = rest
 
-names-stay : (xs : List Variable) (name value n text : List ℕ) → (let f : Variable → Assigned = (λ variable. record { value = text; more = [] }) in option_map f (variable_named n (with_value name value xs)) ≡ option_map f (variable_named n xs))
-names-stay [] name value n text = refl
-names-stay (x ∷ xs) name value n text = names-by (bytes_eq name x.name) x xs name value n text (names-stay xs name value n text)
+mutual
+  names-by : (b : Bool) (x : Variable) (xs : List Variable) (name value n text : List ℕ) (said : Option (List Member)) (a : Assigned) → option_map (assigned_to value said) (if b then Some x else variable_named name xs) ≡ Some a
+      → option_map (assigned_to text said) (variable_named n (if b then record { name = x.name; value = a.value; holder = x.holder; more = a.more } ∷ xs else x ∷ with_assigned name a xs)) ≡ option_map (assigned_to text said) (variable_named n (x ∷ xs))
+  names-by true x xs name value n text said a is = head-by (bytes_eq n x.name) (record { name = x.name; value = a.value; holder = x.holder; more = a.more }) x xs n text said (set-again text value said x a (some_same (assigned_to value said x) a is))
+  names-by false x xs name value n text said a is = tail-by (bytes_eq n x.name) x (with_assigned name a xs) xs n text said (names-stay xs name value n text said a is)
 
-pub assigned-map : (o : Option (List Variable)) (name value n text : List ℕ) → assigned_of n text (option_map (with_value name value) o) ≡ assigned_of n text o
-assigned-map None name value n text = refl
-assigned-map (Some xs) name value n text = names-stay xs name value n text
+  names-stay : (xs : List Variable) (name value n text : List ℕ) (said : Option (List Member)) (a : Assigned) → option_map (assigned_to value said) (variable_named name xs) ≡ Some a
+      → option_map (assigned_to text said) (variable_named n (with_assigned name a xs)) ≡ option_map (assigned_to text said) (variable_named n xs)
+  names-stay [] name value n text said a is = refl
+  names-stay (x ∷ xs) name value n text said a is = names-by (bytes_eq name x.name) x xs name value n text said a is
 
-pub assigned-by : (b : Bool) (o : Option (List Variable)) (name value n text : List ℕ) → assigned_of n text (if b then option_map (with_value name value) o else o) ≡ assigned_of n text o
-assigned-by true o name value n text = assigned-map o name value n text
-assigned-by false o name value n text = refl
+-- what can be set of others, or once a value is set, stays: the same is said of each text
+pub assigned-by : (b : Bool) (o before : Option (List Variable)) (name value n text : List ℕ) (said : Option (List Member)) (a : Assigned) → assigned_of name value said before ≡ Some a → (b ≡ true → o ≡ before)
+    → assigned_of n text said (if b then option_map (with_assigned name a) o else o) ≡ assigned_of n text said o
+assigned-by true o None name value n text said a is same = absurd (cc is)
+assigned-by true o (Some xs) name value n text said a is same =
+    subst (λ (p : Option (List Variable)). assigned_of n text said (option_map (with_assigned name a) p) ≡ assigned_of n text said p) (sym (same refl)) (names-stay xs name value n text said a is)
+assigned-by false o before name value n text said a is same = refl
 
 some-before : {A B : Type 0} (f : A → B) (o : Option A) → IsSome (option_map f o) → IsSome o
 some-before f None h = h
 some-before f (Some x) h = refl
 
 -- only a variable that is there can be set
-pub assigned-there : (o : Option (List Variable)) (name text : List ℕ) → IsSome (assigned_of name text o) → IsSome (option_and_then (variable_named name) o)
-assigned-there o name text h = some-before (λ variable. record { value = text; more = [] }) (option_and_then (variable_named name) o) h
+pub assigned-there : (o : Option (List Variable)) (name text : List ℕ) (said : Option (List Member)) → IsSome (assigned_of name text said o) → IsSome (option_and_then (variable_named name) o)
+assigned-there o name text said h = some-before (assigned_to text said) (option_and_then (variable_named name) o) h

@@ -1,5 +1,6 @@
 -- Variables: those of each holder by its number, and what a text comes to among them. This profile's choice.
-use Rattle.std.specs.Prelude.{ℕ, nat_eq, nat_lt, List, [], ◌∷◌, Option, Some, None, option_map, option_and_then, if◌then◌else◌}
+use Rattle.std.specs.Prelude.{ℕ, nat_eq, nat_lt, List, [], ◌∷◌, Option, Some, None, option_map, option_and_then, unwrap_or, if◌then◌else◌}
+use Rattle.dap_json.specs.declared.more.Member.{Member}
 use Rattle.dap_debuggee.specs.Laws.{variable_named}
 use Rattle.dap_debuggee.specs.declared.answers.Variable.{Variable}
 use Rattle.dap_debuggee.specs.declared.answers.Evaluation.{Evaluation}
@@ -34,6 +35,10 @@ first_of (Some x) other = Some x
 abbrev pub evaluation : Variable → Evaluation
 evaluation variable = record { value = variable.value; holder = variable.holder; more = variable.more }
 
--- the value is the text, where one of the variables has the name
-abbrev pub assigned_of : List ℕ → List ℕ → Option (List Variable) → Option Assigned
-assigned_of name text variables = option_map (λ variable. record { value = text; more = [] }) (option_and_then (variable_named name) variables)
+-- the value of a variable is the text; what is said beside it stays, unless this is said
+abbrev pub assigned_to : List ℕ → Option (List Member) → Variable → Assigned
+assigned_to text said variable = record { value = text; more = unwrap_or said variable.more }
+
+-- the same, where one of the variables has the name
+abbrev pub assigned_of : List ℕ → List ℕ → Option (List Member) → Option (List Variable) → Option Assigned
+assigned_of name text said variables = option_map (assigned_to text said) (option_and_then (variable_named name) variables)

@@ -1,10 +1,11 @@
 //! Lists of variables, and those of each holder by its number.
 ghost use Rattle.std.specs.Prelude.{◌≡◌, IfOk, option_map};
-ghost use Rattle.dap_debuggee.specs.Laws.{variable_named, with_value as with_value_in};
+ghost use Rattle.dap_debuggee.specs.Laws.{variable_named, with_assigned as with_assigned_in};
 ghost use Rattle.dap_debuggee.specs.Shown.{window as window_of};
+ghost use Rattle.dap_recording.specs.Variables.{assigned_to as assigned_to_value};
 
-use dap_debuggee::Variable;
-use dap_json::Text;
+use dap_debuggee::{Assigned, Variable};
+use dap_json::{More, Text};
 use std::alloc::{AllocError, Global};
 use std::collections::BTreeMap;
 use std::marker::Model;
@@ -49,28 +50,44 @@ pub fn copied(alloc: Global, variables: &[Variable]) -> Result<Vec<Variable>, Al
     Ok(copy)
 }
 
-/// The same variables, the first of which with a name has a value.
-pub fn with_value(
+/// A variable's value, once it is this one. What is said beside it stays, unless this is said.
+pub fn assigned_to(
+    variable: &Variable,
+    value: Text,
+    said: Option<More>,
+) -> Result<Assigned, AllocError>
+    ensures { IfOk result (λ assigned. assigned ≡ assigned_to_value value said variable.now) }
+{
+    let more = match said {
+        Some(more) => more,
+        None => variable.more.clone()?,
+    };
+    Ok(Assigned { value, more })
+}
+
+/// The same variables, the first of which with a name has a value, and what is said beside it.
+pub fn with_assigned(
     alloc: Global,
     variables: &[Variable],
     name: &str,
-    value: &str,
+    assigned: &Assigned,
 ) -> Result<Vec<Variable>, AllocError>
-    ensures { IfOk result (λ changed. changed.items ≡ with_value_in name.now value.now variables.now) }
+    ensures { IfOk result (λ changed. changed.items ≡ with_assigned_in name.now assigned.now variables.now) }
 {
     let mut changed = Vec::with_capacity(alloc, variables.len())?;
     let mut is_set = false;
     for variable in variables {
         let is_it = !is_set && name == variable.name.as_str();
+        let (value, more) = if is_it {
+            (&assigned.value, &assigned.more)
+        } else {
+            (&variable.value, &variable.more)
+        };
         changed.push(Variable {
             name: variable.name.clone()?,
-            value: if is_it {
-                Text::copied(alloc, value)?
-            } else {
-                variable.value.clone()?
-            },
+            value: value.clone()?,
             holder: variable.holder,
-            more: variable.more.clone()?,
+            more: more.clone()?,
         })?;
         is_set = is_set || is_it;
     }

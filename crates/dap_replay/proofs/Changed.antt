@@ -1,22 +1,27 @@
 -- Values that were set leave what holds children as it is recorded.
-use Rattle.std.proofs.Common.{◌≡◌, ℕ, zero, suc, Bool, true, false, List, [], ◌∷◌, map, Option, Some, None, option_map, if◌then◌else◌, nat_eq, nat_lt, bytes_eq, refl, sym, ap, subst, ◌∙◌}
+use Rattle.std.proofs.Common.{◌≡◌, ℕ, zero, suc, Bool, true, false, List, [], ◌∷◌, map, Option, Some, None, option_map, unwrap_or, if◌then◌else◌, nat_eq, nat_lt, bytes_eq, refl, sym, ap, subst, ◌∙◌}
 use Rattle.std.proofs.lemmas.Bool.{eqb-true}
 use Rattle.std.specs.List.{slice_get}
-use Rattle.dap_debuggee.specs.Laws.{with_value}
-use Rattle.dap_replay.specs.Played.{Played, OfHolder, variables_at, with_variables, first_of, variables_held}
+use Rattle.dap_debuggee.specs.Laws.{with_assigned}
+use Rattle.dap_replay.specs.Played.{Played, OfHolder, variables_at, with_variables, first_of, variables_held, assigned_of, with_text}
 use Rattle.dap_replay.specs.PrivateHeld.{holders_in, KeepHolders}
 use Rattle.dap_debuggee.specs.declared.answers.Variable.{Variable}
+use Rattle.dap_debuggee.specs.declared.answers.Assigned.{Assigned}
 use Rattle.dap_recording.proofs.ReadSteps.{some_same}
 
 -- ---- what holds children
 
-holders-by : (b : Bool) (name value : List ℕ) (x : Variable) (xs : List Variable) → holders_in (with_value name value xs) ≡ holders_in xs → holders_in (if b then record { name = x.name; value = value; holder = x.holder; more = x.more } ∷ xs else x ∷ with_value name value xs) ≡ x.holder ∷ holders_in xs
-holders-by true name value x xs rest = refl
-holders-by false name value x xs rest = ap (λ hs. x.holder ∷ hs) rest
+holders-by : (b : Bool) (name : List ℕ) (a : Assigned) (x : Variable) (xs : List Variable) → holders_in (with_assigned name a xs) ≡ holders_in xs → holders_in (if b then record { name = x.name; value = a.value; holder = x.holder; more = a.more } ∷ xs else x ∷ with_assigned name a xs) ≡ x.holder ∷ holders_in xs
+holders-by true name a x xs rest = refl
+holders-by false name a x xs rest = ap (λ hs. x.holder ∷ hs) rest
 
-holders-stay : (name value : List ℕ) (xs : List Variable) → holders_in (with_value name value xs) ≡ holders_in xs
-holders-stay name value [] = refl
-holders-stay name value (x ∷ xs) = holders-by (bytes_eq name x.name) name value x xs (holders-stay name value xs)
+holders-stay : (name : List ℕ) (a : Assigned) (xs : List Variable) → holders_in (with_assigned name a xs) ≡ holders_in xs
+holders-stay name a [] = refl
+holders-stay name a (x ∷ xs) = holders-by (bytes_eq name x.name) name a x xs (holders-stay name a xs)
+
+holders-if : (name : List ℕ) (xs : List Variable) (o : Option Assigned) → holders_in (unwrap_or (option_map (λ a. with_assigned name a xs) o) xs) ≡ holders_in xs
+holders-if name xs None = refl
+holders-if name xs (Some a) = holders-stay name a xs
 
 -- these are the holders of the list that is recorded by this number
 abbrev pub AreRecorded : List (List Variable) → ℕ → List Variable → Type 0
@@ -48,9 +53,9 @@ pub held-recorded : (v : Played) → KeepHolders v.recording.variables v.changed
 held-recorded v keeps h ys e = held-by (variables_at h v.changed) v.recording.variables h ys (changed-recorded v.recording.variables h ys v.changed keeps) e
 
 -- a value more that is set
-pub keep-value : (v : Played) (holder : ℕ) (name value : List ℕ) (xs : List Variable) → KeepHolders v.recording.variables v.changed → variables_held v holder ≡ Some xs → KeepHolders v.recording.variables (with_variables holder (with_value name value xs) v.changed)
-keep-value v holder name value xs keeps held =
-    keep v.recording.variables holder (with_value name value xs) v.changed (held-recorded v keeps holder xs held ∙ ap (λ (hs : List (Option ℕ)). Some hs) (sym (holders-stay name value xs))) keeps
+pub keep-value : (v : Played) (holder : ℕ) (name text : List ℕ) (xs : List Variable) → KeepHolders v.recording.variables v.changed → variables_held v holder ≡ Some xs → KeepHolders v.recording.variables (with_variables holder (with_text name text xs) v.changed)
+keep-value v holder name text xs keeps held =
+    keep v.recording.variables holder (with_text name text xs) v.changed (held-recorded v keeps holder xs held ∙ ap (λ (hs : List (Option ℕ)). Some hs) (sym (holders-if name xs (assigned_of name text None (Some xs))))) keeps
 
 -- ---- a variable at its place
 

@@ -5,7 +5,7 @@ use Rattle.std.specs.List.{slice_get}
 use Rattle.std.specs.Option.{IsSome}
 use Rattle.dap_command.specs.declared.source_key.SourceKey.{SourceKey}
 use Rattle.dap_debuggee.specs.Shown.{Shown, Act, to_start, to_resume, to_pause, to_poll, to_set_breakpoints, to_assign, to_end, Reply, done, refused, happened, asked_of_act, Last}
-use Rattle.dap_debuggee.specs.Laws.{variable_named, with_value}
+use Rattle.dap_debuggee.specs.Laws.{variable_named, with_assigned}
 use Rattle.dap_recording.specs.Recording.{id_at}
 use Rattle.dap_recording.specs.Reading.{IsVerdict}
 pub use Rattle.dap_recording.specs.Snapshot.{is_in, thread_shown}
@@ -131,8 +131,12 @@ move_from how v = move_of v.recording.sources v.recording.moments (lines_in v.se
 abbrev pub after_resume : How → Played → Played
 after_resume how v = run_from v.at (output_on_move how v.recording.moments v.at (move_from how v).to) (move_from how v) (with_changed [] v)
 
+-- the first of the variables with a name has the text as its value; they stay where there is none
+abbrev pub with_text : List ℕ → List ℕ → List Variable → List Variable
+with_text name text xs = unwrap_or (option_map (λ a. with_assigned name a xs) (assigned_of name text None (Some xs))) xs
+
 abbrev pub after_assign : ℕ → List ℕ → List ℕ → Played → Played
-after_assign holder name text v = with_changed (with_variables holder (with_value name text (unwrap_or (variables_held v holder) [])) v.changed) v
+after_assign holder name text v = with_changed (with_variables holder (with_text name text (unwrap_or (variables_held v holder) [])) v.changed) v
 
 -- a stop at the end of a move, with the thread that stands there
 abbrev pub stop_of : List Moment → Move → Happening
@@ -223,7 +227,7 @@ evaluation_in v None name = None
 evaluation_in v (Some frame) name = option_map evaluation (option_and_then (value_in (variables_held v) name) (scopes_shown v frame))
 
 abbrev pub assigned_in : Played → ℕ → List ℕ → List ℕ → Option Assigned
-assigned_in v holder name text = assigned_of name text (children_shown v holder)
+assigned_in v holder name text = assigned_of name text None (children_shown v holder)
 
 abbrev pub shown_of : Played → Shown
 shown_of v = record {

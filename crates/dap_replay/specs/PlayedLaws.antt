@@ -5,11 +5,11 @@ use Rattle.std.specs.List.{slice_get}
 use Rattle.std.specs.Option.{IsSome}
 use Rattle.dap_command.specs.declared.source_key.SourceKey.{SourceKey}
 use Rattle.dap_debuggee.specs.Shown.{Act, to_start, to_resume, to_pause, to_poll, to_set_breakpoints, to_assign, to_end, Reply, done, refused, happened}
-use Rattle.dap_debuggee.specs.Laws.{may_answer, state_after, keeps_answers, keeps_frames, lines_after, Counts, Remembers, Answers, Moves, SetsLines, SetsValues, SetsWhatIsTold, KeepsAnswers, KeepsFrames, KeepsSources, SameFrames, SameSources, NoThreads, VerifiesEach, AssignsVariables, with_value}
+use Rattle.dap_debuggee.specs.Laws.{may_answer, state_after, keeps_answers, keeps_frames, lines_after, Counts, Remembers, Answers, Moves, SetsLines, SetsValues, SetsWhatIsTold, KeepsAnswers, KeepsFrames, KeepsSources, SameFrames, SameSources, NoThreads, VerifiesEach, AssignsVariables, with_assigned}
 use Rattle.dap_debuggee.specs.StayLaws.{frames-stay, sources-stay}
 use Rattle.dap_recording.specs.SourceLaws.{each-verified}
 use Rattle.dap_recording.specs.VariableLaws.{variables-put, variables-of_others, named-in, assigned-by, assigned-there}
-use Rattle.dap_replay.specs.Played.{Played, Run, variables_at, assigned_of, variables_held, first_of, if_within, is_in, moment_shown, children_shown, after_assign, act_on, with_ask, after_start, after_resume, start_in, resume_in, pause_in, poll_result, step_of_run, end_of_run, with_run, with_pause, with_lines, at_rest, with_source_lines, lines_in, first_piece, shown_of, has_source_line, source_shown, FollowsPlayed}
+use Rattle.dap_replay.specs.Played.{Played, Run, variables_at, assigned_of, with_text, variables_held, first_of, if_within, is_in, moment_shown, children_shown, after_assign, act_on, with_ask, after_start, after_resume, start_in, resume_in, pause_in, poll_result, step_of_run, end_of_run, with_run, with_pause, with_lines, at_rest, with_source_lines, lines_in, first_piece, shown_of, has_source_line, source_shown, FollowsPlayed}
 use Rattle.dap_debuggee.specs.declared.answers.Assigned.{Assigned}
 use Rattle.dap_debuggee.specs.declared.answers.Variable.{Variable}
 use Rattle.dap_recording.specs.declared.recording.Moment.{Moment}
@@ -440,34 +440,39 @@ pub found-within : {A : Type 0} (span : Moment → Span) (o : Option Moment) (n 
 found-within span None n found x e = absurd (cc e)
 found-within span (Some m) n found x e = found-if (is_in (span m) n) found x e
 
-children-by : (b : Bool) (v : Played) (holder h : ℕ) (name text : List ℕ) (xs : List Variable) → nat_eq h holder ≡ b → variables_held v holder ≡ Some xs
-    → children_shown (after_assign holder name text v) h ≡ (if b then option_map (with_value name text) (children_shown v h) else children_shown v h)
-children-by true v holder h name text xs is held =
+-- those of the holder once one of them is set, where this is told of it
+set-in : (name text : List ℕ) (xs : List Variable) (a : Assigned) → assigned_of name text None (Some xs) ≡ Some a → with_text name text xs ≡ with_assigned name a xs
+set-in name text xs a is = ap (λ (o : Option Assigned). unwrap_or (option_map (λ b. with_assigned name b xs) o) xs) is
+
+children-by : (b : Bool) (v : Played) (holder h : ℕ) (name text : List ℕ) (xs : List Variable) (a : Assigned) → nat_eq h holder ≡ b → variables_held v holder ≡ Some xs → assigned_of name text None (Some xs) ≡ Some a
+    → children_shown (after_assign holder name text v) h ≡ (if b then option_map (with_assigned name a) (children_shown v h) else children_shown v h)
+children-by true v holder h name text xs a is held told =
     let same : h ≡ holder = eqb-true h holder is in
-    let set : variables_at h (after_assign holder name text v).changed ≡ Some (with_value name text xs) =
-    subst (λ n. variables_at n (after_assign holder name text v).changed ≡ Some (with_value name text xs)) (sym same)
-    (variables-put holder (with_value name text (unwrap_or (variables_held v holder) [])) v.changed ∙ ap (λ (o : Option (List Variable)). Some (with_value name text (unwrap_or o []))) held) in
+    let set : variables_at h (after_assign holder name text v).changed ≡ Some (with_assigned name a xs) =
+    subst (λ n. variables_at n (after_assign holder name text v).changed ≡ Some (with_assigned name a xs)) (sym same)
+    (variables-put holder (with_text name text (unwrap_or (variables_held v holder) [])) v.changed ∙ ap (λ (o : Option (List Variable)). Some (with_text name text (unwrap_or o []))) held ∙ ap (λ (ys : List Variable). Some ys) (set-in name text xs a told)) in
     let before : variables_held v h ≡ Some xs = subst (λ n. variables_held v n ≡ Some xs) (sym same) held in
     ap (λ (o : Option (List Variable)). if_within (λ m. m.holders) (moment_shown v) h (first_of o (slice_get v.recording.variables h))) set
-    ∙ ap (λ (o : Option (List Variable)). if_within (λ m. m.holders) (moment_shown v) h (option_map (with_value name text) o)) (sym before)
-    ∙ sym (map-within (λ m. m.holders) (moment_shown v) h (with_value name text) (variables_held v h))
-children-by false v holder h name text xs is held =
-    ap (λ (o : Option (List Variable)). if_within (λ m. m.holders) (moment_shown v) h (first_of o (slice_get v.recording.variables h))) (variables-of_others holder h (with_value name text (unwrap_or (variables_held v holder) [])) v.changed is)
+    ∙ ap (λ (o : Option (List Variable)). if_within (λ m. m.holders) (moment_shown v) h (option_map (with_assigned name a) o)) (sym before)
+    ∙ sym (map-within (λ m. m.holders) (moment_shown v) h (with_assigned name a) (variables_held v h))
+children-by false v holder h name text xs a is held told =
+    ap (λ (o : Option (List Variable)). if_within (λ m. m.holders) (moment_shown v) h (first_of o (slice_get v.recording.variables h))) (variables-of_others holder h (with_text name text (unwrap_or (variables_held v holder) [])) v.changed is)
 
 sets-one : (v : Played) (holder : ℕ) (name text : List ℕ) (a : Assigned) (r : Reply) → (shown_of v).assigned holder name text ≡ Some a → SetsWhatIsTold (shown_of v) (shown_of (with_ask (to_assign holder name text) r (after_assign holder name text v))) holder name text
 sets-one v holder name text a r is =
-    let named = named-in (children_shown v holder) name text a is in
+    let named = named-in (children_shown v holder) name text None a is in
     let held = found-within (λ m. m.holders) (moment_shown v) holder (variables_held v holder) named.0 named.1 in
+    let told : assigned_of name text None (Some named.0) ≡ Some a = ap (assigned_of name text None) (sym named.1) ∙ is in
     record {
-      value = text;
-      more = a.more;
-      told = is ∙ ap (λ (value : List ℕ). Some (record { value = value; more = a.more })) named.2;
+      assigned = a;
+      told = is;
       set = record {
         threads = refl;
         frames = λ t. refl;
         scopes = λ n. refl;
-        children = λ h. children-by (nat_eq h holder) v holder h name text named.0 refl held;
-        assigned = λ h n t. ap (assigned_of n t) (children-by (nat_eq h holder) v holder h name text named.0 refl held) ∙ assigned-by (nat_eq h holder) (children_shown v h) name text n t;
+        children = λ h. children-by (nat_eq h holder) v holder h name text named.0 a refl held told;
+        assigned = λ h n t. ap (assigned_of n t None) (children-by (nat_eq h holder) v holder h name text named.0 a refl held told)
+            ∙ assigned-by (nat_eq h holder) (children_shown v h) (children_shown v holder) name text n t None a is (λ e. ap (children_shown v) (eqb-true h holder e));
         sources = record { sources = refl; content = λ n. refl };
         verify = λ source lines. refl;
       };
@@ -482,4 +487,4 @@ sets_values-played v w holder name text r f =
     subst (λ p. SetsWhatIsTold (shown_of v) (shown_of p) holder name text) (sym f.view) (sets-some v holder name text ((shown_of v).assigned holder name text) r refl f.allowed)
 
 pub assigns_variables-played : AssignsVariables shown_of
-assigns_variables-played v holder name text h = assigned-there (children_shown v holder) name text h
+assigns_variables-played v holder name text h = assigned-there (children_shown v holder) name text None h

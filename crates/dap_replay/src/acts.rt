@@ -3,6 +3,7 @@
 use crate::recorded::{Going, LastAsked, Recorded};
 use dap_command::SourceKey;
 use dap_debuggee::{Asked, DebuggeeFault, How, State};
+use dap_json::Text;
 use dap_recording::variables;
 use std::alloc::{AllocError, Global};
 
@@ -132,7 +133,11 @@ impl Recorded {
         let Some(held) = self.variables_of(holder) else {
             unreachable!()
         };
-        let changed = variables::with_value(alloc, held, name, text)?;
+        let Some(variable) = variables::named(held, name) else {
+            unreachable!()
+        };
+        let assigned = variables::assigned_to(variable, Text::copied(alloc, text)?, None)?;
+        let changed = variables::with_assigned(alloc, held, name, &assigned)?;
         self.changed.put(holder, changed)?;
         Ok(())
     }

@@ -2,7 +2,7 @@
 
 use crate::recorded::Recorded;
 use dap_debuggee::{Assigned, DebuggeeFault, Evaluation, Frame, Scope, State, Thread, Variable};
-use dap_json::{More, Text};
+use dap_json::Text;
 use dap_recording::{Moment, RecordedThread, shown, variables};
 use std::alloc::{AllocError, Global};
 
@@ -168,10 +168,11 @@ impl Recorded {
         };
         match variables::named(children, name) {
             None => Err(DebuggeeFault::Refused),
-            Some(_) => Ok(Assigned {
-                value: Text::copied(alloc, text)?,
-                more: More::none(),
-            }),
+            Some(variable) => Ok(variables::assigned_to(
+                variable,
+                Text::copied(alloc, text)?,
+                None,
+            )?),
         }
     }
 }

@@ -89,6 +89,7 @@ fn learned(alloc: Global, words: &str) -> Option<Coming> {
         text: text(alloc, name)?,
         value: Some(text(alloc, value)?),
         holder: Some(70),
+        more: None,
     })
 }
 

@@ -1,7 +1,6 @@
 use Rattle.std.proofs.Common.{◌≡◌, List, sym, ap, subst, ◌∙◌}
-use Rattle.dap_debuggee.specs.Laws.{with_value}
 use Rattle.dap_debuggee.specs.declared.answers.Variable.{Variable}
-use Rattle.dap_replay.specs.Played.{Played, OfHolder, with_variables}
+use Rattle.dap_replay.specs.Played.{Played, OfHolder, with_variables, with_text}
 use Rattle.dap_replay.specs.PrivateHeld.{KeepHolders}
 use Rattle.dap_replay.proofs.Changed.{keep-value}
 use Rattle.dap_replay.proofs.recorded.Recorded.put_value.Goals as goal
@@ -10,7 +9,7 @@ pub invariant_of-self-2 : goal.invariant_of-self-2
 invariant_of-self-2 c =
     let holder = c.args.holder in
     let v = c.args.self.now in
-    let changed = with_value c.args.name.now c.args.text.now c.in-Some.held.now in
+    let changed = with_text c.args.name.now c.args.text.now c.in-Some.held.now in
     let stored : c.put.new.self ≡ with_variables holder changed c.self.inside.changed =
     c.in_ok-put.ensures.put ∙ ap (λ (xs : List Variable). with_variables holder xs c.self.inside.changed) c.in_ok-changed.ensures in
     let before = subst (λ (w : Played). KeepHolders w.recording.variables w.changed) c.self.view_is c.self.invariant.4 in

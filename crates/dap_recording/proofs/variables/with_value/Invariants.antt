@@ -1,8 +1,0 @@
-use Rattle.std.proofs.Common.{◌≡◌, ◌++◌, drop, if◌then◌else◌}
-use Rattle.dap_debuggee.specs.Laws.{with_value}
-use Rattle.dap_recording.proofs.variables.with_value.Given as goal
-
--- the copy so far, and what is left of the variables
-abbrev pub invariant-loop-variable : goal.invariant-loop-variable
-invariant-loop-variable l =
-    l.changed.items ++ (if l.is_set then drop l.variable-index l.variables else with_value l.name l.value (drop l.variable-index l.variables)) ≡ with_value l.name l.value l.variables
