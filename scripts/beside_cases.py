@@ -43,7 +43,7 @@ def sessions():
         ("variables", number(3), ok({"variables": [part]})),
         ("evaluate", in_frame(1, "p"), ok({**pair, "result": "(7)"})),
         ("evaluate", in_frame(1, "x"), ok({**OF_X, "result": "1", "variablesReference": 0})),
-        ("setVariable", assigning(2, "x", "2"), ok({"value": "2"})),
+        ("setVariable", assigning(2, "x", "2"), ok({**OF_X, "value": "2"})),
         ("variables", number(2), ok({"variables": [{**x, "value": "2"}, {**AS_REFERENCES, **pair, "name": "p", "value": "(7)"}]})),
     ], file_of("beside", told(OF_FRAME, OF_SCOPE, OF_X, {**OF_PAIR, **AS_REFERENCES})))
 
