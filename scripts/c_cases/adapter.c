@@ -103,11 +103,11 @@ static int stops(void) {
     if (!hear("{\"seq\":7,\"type\":\"request\",\"command\":\"variables\",\"arguments\":{\"variablesReference\":3}}")) return 0;
     CHECK(has("\"success\":false")); /* not told yet */
     CHECK(yt_adapter_target(&adapter, 3, &target) == YT_OK && target.kind == 2);
-    if (!goes_on(yt_adapter_variable(&adapter, BYTES("g"), BYTES("1"), false, 0))) return 0;
+    if (!goes_on(yt_adapter_variable_with(&adapter, BYTES("g"), BYTES("1"), false, 0, BYTES("{\"type\":\"int\"}")))) return 0;
     code = yt_adapter_variables(&adapter, target.object, &found);
     if (!told(code)) return 0;
     if (!hear("{\"seq\":8,\"type\":\"request\",\"command\":\"variables\",\"arguments\":{\"variablesReference\":3}}")) return 0;
-    CHECK(has("\"name\":\"g\"") && has("\"value\":\"1\""));
+    CHECK(has("\"name\":\"g\"") && has("\"value\":\"1\"") && has("\"type\":\"int\""));
     code = yt_adapter_variables(&adapter, target.object, &found);
     if (!goes_on(code)) return 0;
     CHECK(code == YT_TOLD);
@@ -120,9 +120,9 @@ static int goes(void) {
     if (!told(yt_adapter_learned(&adapter, BYTES("x + 1"), true, BYTES("42"), false, 0, &found))) return 0;
     if (!hear("{\"seq\":9,\"type\":\"request\",\"command\":\"evaluate\",\"arguments\":{\"expression\":\"x + 1\"}}")) return 0;
     CHECK(has("\"result\":\"42\""));
-    if (!told(yt_adapter_learned(&adapter, BYTES("44"), true, BYTES("44"), false, 0, &found))) return 0;
+    if (!told(yt_adapter_learned_with(&adapter, BYTES("44"), true, BYTES("44"), false, 0, BYTES("{\"type\":\"long\"}"), &found))) return 0;
     if (!hear("{\"seq\":10,\"type\":\"request\",\"command\":\"setVariable\",\"arguments\":{\"variablesReference\":2,\"name\":\"x\",\"value\":\"44\"}}")) return 0;
-    CHECK(has("\"value\":\"44\""));
+    CHECK(has("\"value\":\"44\"") && has("\"type\":\"long\""));
     CHECK(yt_adapter_act(&adapter, &act) == YT_OK && act.kind == 5 && act.name == 1 && act.value == 2);
     CHECK(yt_adapter_name(&adapter, out, 8) == YT_OK && out[0] == 'x' && yt_adapter_value(&adapter, out, 8) == YT_OK && !memcmp(out, "44", 2));
     if (!hear("{\"seq\":11,\"type\":\"request\",\"command\":\"next\",\"arguments\":{\"threadId\":7}}")) return 0;
@@ -166,6 +166,8 @@ static void nothing_is_held(void) {
     CHECK(yt_adapter_output(&adapter, 9, BYTES("x"), &found) == YT_NONE && yt_adapter_stopped(&adapter, BYTES("x"), 1, BYTES(SHOWS), false, &found) == YT_NONE);
     CHECK(yt_adapter_continued(&adapter, 1, &found) == YT_NONE && yt_adapter_exited(&adapter, 1, &found) == YT_NONE);
     CHECK(yt_adapter_learned(&adapter, BYTES("x"), true, BYTES("y"), false, 0, &found) == YT_NONE);
+    CHECK(yt_adapter_learned_with(&adapter, BYTES("x"), true, BYTES("y"), false, 0, BYTES("{}"), &found) == YT_NONE);
+    CHECK(yt_adapter_variable_with(&adapter, BYTES("x"), BYTES("y"), false, 0, BYTES("{}")) == YT_NONE);
     CHECK(yt_adapter_variable(&adapter, BYTES("x"), BYTES("y"), false, 0) == YT_NONE && yt_adapter_variables(&adapter, 1, &found) == YT_NONE);
     CHECK(yt_adapter_sources(&adapter, BYTES(BASE), &found) == YT_NONE && yt_adapter_act(&adapter, &act) == YT_NONE);
     CHECK(yt_adapter_lines(&adapter, line, 1) == YT_NONE && yt_adapter_source(&adapter, out, 1) == YT_NONE);
@@ -180,6 +182,10 @@ static void nothing_is_held(void) {
     CHECK(yt_adapter_stopped(&adapter, BYTES("x"), 1, BYTES(SHOWS), false, &found) == YT_OUT_OF_TURN);
     CHECK(yt_adapter_output(&adapter, 9, BYTES("x"), &found) == YT_BAD_ARGUMENTS && yt_adapter_output(&adapter, 1, BYTES("\xff"), &found) == YT_BAD_ARGUMENTS);
     CHECK(yt_adapter_stopped(&adapter, BYTES("x"), 1, BYTES("[]"), false, &found) == YT_BAD_RECORDING);
+    CHECK(yt_adapter_variable_with(&adapter, BYTES("x"), BYTES("y"), false, 0, BYTES("[]")) == YT_BAD_ARGUMENTS);
+    CHECK(yt_adapter_variable_with(&adapter, BYTES("x"), BYTES("y"), false, 0, BYTES("{\"a\":0.5}")) == YT_BAD_ARGUMENTS);
+    CHECK(yt_adapter_learned_with(&adapter, BYTES("x"), true, BYTES("y"), false, 0, BYTES("{"), &found) == YT_BAD_ARGUMENTS);
+    CHECK(yt_adapter_variable_with(&adapter, BYTES("x"), BYTES("y"), false, 0, NULL, 0) == YT_OK);
     CHECK(yt_adapter_take(&adapter, BYTES("Content-Length: 2\r\n\r\n[]"), &found) == YT_BODY && found.at == 0 && found.cause == 2);
     CHECK(yt_adapter_turn(&adapter, &found) == YT_BODY && yt_adapter_continued(&adapter, 1, &found) == YT_BODY);
     yt_adapter_free(&adapter);

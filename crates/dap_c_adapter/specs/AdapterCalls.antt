@@ -1,6 +1,7 @@
 -- What the exports of an adapter do, in the words of dap_adapter, over the adapter behind the handle and a debuggee that the
 -- host feeds.
 use Rattle.std.specs.Prelude.{◌≡◌, ◌⊎◌, ℕ, zero, suc, ℤ, List, [], ◌++◌, length, take, Bool, false, Option, Some, None, Result, Ok, Err, is_some, if◌then◌else◌}
+use Rattle.dap_json.specs.declared.more.Member.{Member}
 use Rattle.dap_debuggee.specs.declared.answers.Category.{Category}
 use Rattle.dap_debuggee.specs.declared.answers.Category.TheVariants.{Console, Stdout, Stderr}
 use Rattle.dap_debuggee.specs.declared.answers.Variable.{Variable}
@@ -198,8 +199,11 @@ pub record KeepsActs (old new : HeldAdapter) : Type 0 where
   pub act : new.act ≡ old.act
 
 -- a variable, as a caller in C says it
+abbrev pub variable_with : List ℕ → List ℕ → Bool → ℕ → List Member → Variable
+variable_with name value has_parts holder more = record { name = name; value = value; holder = if has_parts then Some holder else None; more = more }
+
 abbrev pub variable_told : List ℕ → List ℕ → Bool → ℕ → Variable
-variable_told name value has_parts holder = record { name = name; value = value; holder = if has_parts then Some holder else None; more = [] }
+variable_told name value has_parts holder = variable_with name value has_parts holder []
 
 -- what the host has still to fetch, in the order in which it was asked
 abbrev pub acts_due : HeldAdapter → List HostAct

@@ -1,6 +1,6 @@
 -- What the exports of an adapter do, each word over the adapter behind the handle.
 -- A word on an export takes what the caller gives, the code, what is told, and the adapter before and after.
-use Rattle.std.specs.Prelude.{◌≡◌, ◌⊎◌, ℕ, ℤ, List, [], ◌∷◌, ◌++◌, length, Bool, true, false, if◌then◌else◌, Option, Some, None, Result, Ok, IfOk, IfSome}
+use Rattle.std.specs.Prelude.{◌≡◌, ◌⊎◌, ℕ, ℤ, List, [], ◌∷◌, ◌++◌, length, Bool, true, false, if◌then◌else◌, Option, Some, None, Result, Ok, unwrap_or, IfOk, IfSome}
 use Rattle.dap_plan.specs.Polling.{has_debuggee}
 use Rattle.dap_decision.specs.Table.{is_phase}
 use Rattle.dap_decision.specs.declared.phase.Phase.TheVariants.{Asked}
@@ -18,7 +18,8 @@ use Rattle.dap_c_parts.specs.declared.found.YtFound.{YtFound}
 use Rattle.dap_c_parts.specs.declared.limits.YtLimits.{YtLimits}
 use Rattle.dap_c_adapter.specs.Acts.{IsActFound}
 use Rattle.dap_c_adapter.specs.AdapterBehind.{FromTo}
-use Rattle.dap_c_adapter.specs.AdapterCalls.{IsOpenedOver, AdapterTakes, RefusesAdapterPiece, IsAdapterAsBefore, AdapterTurns, RefusesTurn, Tells, IsStop, IsNoMoment, AreSources, IsCodeOfText, category_of, variable_told, acts_due}
+use Rattle.dap_c_adapter.specs.AdapterCalls.{IsOpenedOver, AdapterTakes, RefusesAdapterPiece, IsAdapterAsBefore, AdapterTurns, RefusesTurn, Tells, IsStop, IsNoMoment, AreSources, IsCodeOfText, category_of, variable_told, variable_with, acts_due}
+use Rattle.dap_c_adapter.specs.Beside.{CanBeSaid, said_by}
 use Rattle.dap_c_adapter.specs.AdapterFaults.{adapter_number, IsAdapterFaultFound}
 use Rattle.dap_c_adapter.specs.AdapterSeen.{IsAdapterState, IsTarget}
 use Rattle.dap_c_adapter.specs.declared.acts.YtAct.{YtAct}
@@ -137,6 +138,11 @@ abbrev pub TellsLearned : List ℕ → List ℕ → Bool → Bool → ℕ → �
 TellsLearned asked value known has_parts holder code found old new =
     TellsWhere (λ told. told ≡ said.Learned asked (if known then Some value else None) (if has_parts then Some holder else None) None) code found old new
 
+-- with what is said beside the value
+abbrev pub TellsLearnedWith : List ℕ → List ℕ → Bool → Bool → ℕ → List ℕ → ℕ → YtFound → HeldAdapter → HeldAdapter → Type 0
+TellsLearnedWith asked value known has_parts holder more code found old new =
+    TellsWhere (λ told. CanBeSaid more × (told ≡ said.Learned asked (if known then Some value else None) (if has_parts then Some holder else None) (said_by more))) code found old new
+
 abbrev pub TellsSources : List ℕ → ℕ → YtFound → HeldAdapter → HeldAdapter → Type 0
 TellsSources sources code found old new = TellsWhere (λ told. AreSources (json_of sources) told) code found old new
 
@@ -165,6 +171,11 @@ AcceptsText code = (code ≡ 103 → ⊥) × (code ≡ 107 → ⊥)
 abbrev pub Gathers : YtAdapter → YtAdapter → List ℕ → List ℕ → Bool → ℕ → ℕ → Type 0
 Gathers old new name value has_parts holder code =
     FromTo old new (λ a b. code ≡ 0 → b.variables.items ≡ a.variables.items ++ variable_told name value has_parts holder ∷ [])
+
+-- the same with what is said beside the variable
+abbrev pub GathersWith : YtAdapter → YtAdapter → List ℕ → List ℕ → Bool → ℕ → List ℕ → ℕ → Type 0
+GathersWith old new name value has_parts holder more code =
+    FromTo old new (λ a b. code ≡ 0 → CanBeSaid more × (b.variables.items ≡ a.variables.items ++ variable_with name value has_parts holder (unwrap_or (said_by more) []) ∷ []))
 
 -- ---- acts
 

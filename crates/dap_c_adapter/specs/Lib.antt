@@ -4,3 +4,4 @@ pub mod AdapterCalls
 pub mod AdapterExports
 pub mod AdapterFaults
 pub mod AdapterSeen
+pub mod Beside

@@ -1,7 +1,8 @@
 //! The adapter's end for programs in C, over a debuggee that the caller feeds: a debugger in another language.
 //!
 //! It is of the same kind as `dap_c`, whose head says how. The host is not called: it fetches what it has to do, and says what
-//! happened. A file a concern: `adapter` has the session, `telling` what the host says, `acts` what it has to do.
+//! happened. A file a concern: `adapter` has the session, `telling` what the host says, `beside` what it says beside that,
+//! `acts` what it has to do.
 #![tactic(auto)]
 
 mod acts;
@@ -9,6 +10,7 @@ mod adapter;
 mod adapter_handle;
 mod adapter_layout;
 mod adapter_state;
+mod beside;
 mod held_adapter;
 mod telling;
 
@@ -22,6 +24,7 @@ pub use adapter::{
 pub use adapter_handle::{AdapterHandle, YtAdapter};
 pub use adapter_layout::{YtAdapterSizes, yt_adapter_sizes_of};
 pub use adapter_state::{YtAdapterSeen, YtTarget, yt_adapter_state, yt_adapter_target};
+pub use beside::{yt_adapter_learned_with, yt_adapter_variable_with};
 pub use held_adapter::HeldAdapter;
 pub use telling::{
     yt_adapter_continued, yt_adapter_exited, yt_adapter_learned, yt_adapter_output,

@@ -105,7 +105,7 @@ fn tell_given(
 }
 
 /// The same, over a handle.
-fn tell_handle(
+pub(crate) fn tell_handle(
     alloc: Global,
     adapter: &mut YtAdapter,
     coming: Result<Coming, u32>,
@@ -378,20 +378,21 @@ pub extern "C" fn yt_adapter_exited(
 }
 
 /// What holds the parts of a value, where it has some.
-fn holder_given(has_parts: bool, holder: u64) -> Option<u64>
+pub(crate) fn holder_given(has_parts: bool, holder: u64) -> Option<u64>
     ensures { result ≡ (if has_parts then Some holder else None) }
 {
     if has_parts { Some(holder) } else { None }
 }
 
-fn value_given(
+pub(crate) fn value_given(
     alloc: Global,
     asked: &[u8],
     known: bool,
     value: &[u8],
     holder: Option<u64>,
+    more: Option<More>,
 ) -> Result<Coming, u32>
-    ensures said { IfOk result (λ told. told ≡ said.Learned asked.now (if known then Some value.now else None) holder None) }
+    ensures said { IfOk result (λ told. told ≡ said.Learned asked.now (if known then Some value.now else None) holder more) }
     ensures wanted { IsUtf8 asked.now → IsUtf8 value.now → IfErr result (λ code. code ≡ YT_NO_MEMORY) }
     ensures code { IfErr result IsCodeOfText }
 {
@@ -401,17 +402,18 @@ fn value_given(
         text,
         value: if known { Some(value) } else { None },
         holder,
-        more: None,
+        more,
     })
 }
 
-fn variable_given(
+pub(crate) fn variable_given(
     alloc: Global,
     name: &[u8],
     value: &[u8],
     holder: Option<u64>,
+    more: More,
 ) -> Result<Variable, u32>
-    ensures variable { IfOk result (λ variable. variable ≡ record { name = name.now; value = value.now; holder = holder; more = [] }) }
+    ensures variable { IfOk result (λ variable. variable ≡ record { name = name.now; value = value.now; holder = holder; more = more }) }
     ensures wanted { IsUtf8 name.now → IsUtf8 value.now → IfErr result (λ code. code ≡ YT_NO_MEMORY) }
     ensures code { IfErr result IsCodeOfText }
 {
@@ -421,7 +423,7 @@ fn variable_given(
         name,
         value,
         holder,
-        more: More::none(),
+        more,
     })
 }
 
@@ -452,11 +454,11 @@ pub extern "C" fn yt_adapter_learned(
     ensures gathered { FromTo adapter.old adapter.new (λ a b. b.variables ≡ a.variables) }
 {
     let holder = holder_given(has_parts, holder);
-    let coming = value_given(alloc, asked, known, value, holder);
+    let coming = value_given(alloc, asked, known, value, holder, None);
     tell_handle(alloc, adapter, coming, found)
 }
 
-fn keep_variable(held: &mut HeldAdapter, variable: Result<Variable, u32>) -> u32
+pub(crate) fn keep_variable(held: &mut HeldAdapter, variable: Result<Variable, u32>) -> u32
     requires { IfErr variable IsCodeOfText }
     ensures code { (result ≡ YT_OK → ⊥) → IsCodeOfText result }
     ensures adapter { held.new.adapter ≡ held.old.adapter }
@@ -499,7 +501,8 @@ pub extern "C" fn yt_adapter_variable(
     let Some(mut held) = take_out(alloc, adapter) else {
         return YT_NONE;
     };
-    let variable = variable_given(alloc, name, value, holder_given(has_parts, holder));
+    let holder = holder_given(has_parts, holder);
+    let variable = variable_given(alloc, name, value, holder, More::none());
     let code = keep_variable(&mut *held, variable);
     *adapter = handle_of(held);
     code
