@@ -36,10 +36,13 @@ variables-of_others holder h xs (c ∷ changed) other = else-by (nat_lt holder c
 
 -- ---- a value that is set
 
+same_some : {A : Type 0} (x y : A) → Some x ≡ Some y → x ≡ y
+same_some x y e = cc
+
 -- where something is said of a variable that is there, it is this
 said-is : (o : Option Variable) (text : List ℕ) (said : Option (List Member)) (a : Assigned) → option_map (assigned_to text said) o ≡ Some a → (x : Variable) × (o ≡ Some x) × (assigned_to text said x ≡ a)
 said-is None text said a e = absurd (cc e)
-said-is (Some x) text said a e = (x, refl, some_same (assigned_to text said x) a e)
+said-is (Some x) text said a e = (x, refl, same_some (assigned_to text said x) a e)
 
 pub named-in : (o : Option (List Variable)) (name text : List ℕ) (said : Option (List Member)) (a : Assigned) → assigned_of name text said o ≡ Some a → (xs : List Variable) × (o ≡ Some xs)
 named-in None name text said a e = absurd (cc e)
@@ -65,16 +68,16 @@ tail-by : (b : Bool) (x : Variable) (xs ys : List Variable) (n text : List ℕ) 
 tail-by true x xs ys n text said rest = refl
 tail-by false x xs ys n text said rest = rest
 
-mutual
-  names-by : (b : Bool) (x : Variable) (xs : List Variable) (name value n text : List ℕ) (said : Option (List Member)) (a : Assigned) → option_map (assigned_to value said) (if b then Some x else variable_named name xs) ≡ Some a
-      → option_map (assigned_to text said) (variable_named n (if b then record { name = x.name; value = a.value; holder = x.holder; more = a.more } ∷ xs else x ∷ with_assigned name a xs)) ≡ option_map (assigned_to text said) (variable_named n (x ∷ xs))
-  names-by true x xs name value n text said a is = head-by (bytes_eq n x.name) (record { name = x.name; value = a.value; holder = x.holder; more = a.more }) x xs n text said (set-again text value said x a (some_same (assigned_to value said x) a is))
-  names-by false x xs name value n text said a is = tail-by (bytes_eq n x.name) x (with_assigned name a xs) xs n text said (names-stay xs name value n text said a is)
+names-by : (b : Bool) (x : Variable) (xs : List Variable) (name value n text : List ℕ) (said : Option (List Member)) (a : Assigned) → option_map (assigned_to value said) (if b then Some x else variable_named name xs) ≡ Some a
+    → (option_map (assigned_to value said) (variable_named name xs) ≡ Some a → option_map (assigned_to text said) (variable_named n (with_assigned name a xs)) ≡ option_map (assigned_to text said) (variable_named n xs))
+    → option_map (assigned_to text said) (variable_named n (if b then record { name = x.name; value = a.value; holder = x.holder; more = a.more } ∷ xs else x ∷ with_assigned name a xs)) ≡ option_map (assigned_to text said) (variable_named n (x ∷ xs))
+names-by true x xs name value n text said a is rest = head-by (bytes_eq n x.name) (record { name = x.name; value = a.value; holder = x.holder; more = a.more }) x xs n text said (set-again text value said x a (same_some (assigned_to value said x) a is))
+names-by false x xs name value n text said a is rest = tail-by (bytes_eq n x.name) x (with_assigned name a xs) xs n text said (rest is)
 
-  names-stay : (xs : List Variable) (name value n text : List ℕ) (said : Option (List Member)) (a : Assigned) → option_map (assigned_to value said) (variable_named name xs) ≡ Some a
-      → option_map (assigned_to text said) (variable_named n (with_assigned name a xs)) ≡ option_map (assigned_to text said) (variable_named n xs)
-  names-stay [] name value n text said a is = refl
-  names-stay (x ∷ xs) name value n text said a is = names-by (bytes_eq name x.name) x xs name value n text said a is
+names-stay : (xs : List Variable) (name value n text : List ℕ) (said : Option (List Member)) (a : Assigned) → option_map (assigned_to value said) (variable_named name xs) ≡ Some a
+    → option_map (assigned_to text said) (variable_named n (with_assigned name a xs)) ≡ option_map (assigned_to text said) (variable_named n xs)
+names-stay [] name value n text said a is = refl
+names-stay (x ∷ xs) name value n text said a is = names-by (bytes_eq name x.name) x xs name value n text said a is (names-stay xs name value n text said a)
 
 -- what can be set of others, or once a value is set, stays: the same is said of each text
 pub assigned-by : (b : Bool) (o before : Option (List Variable)) (name value n text : List ℕ) (said : Option (List Member)) (a : Assigned) → assigned_of name value said before ≡ Some a → (b ≡ true → o ≡ before)
