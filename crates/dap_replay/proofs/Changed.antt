@@ -2,11 +2,12 @@
 use Rattle.std.proofs.Common.{◌≡◌, ℕ, zero, suc, Bool, true, false, List, [], ◌∷◌, map, Option, Some, None, option_map, unwrap_or, if◌then◌else◌, nat_eq, nat_lt, bytes_eq, refl, sym, ap, subst, ◌∙◌}
 use Rattle.std.proofs.lemmas.Bool.{eqb-true}
 use Rattle.std.specs.List.{slice_get}
-use Rattle.dap_debuggee.specs.Laws.{with_assigned}
+use Rattle.dap_debuggee.specs.Laws.{variable_named, with_assigned}
 use Rattle.dap_replay.specs.Played.{Played, OfHolder, variables_at, with_variables, first_of, variables_held, assigned_of, with_text}
 use Rattle.dap_replay.specs.PrivateHeld.{holders_in, KeepHolders}
 use Rattle.dap_debuggee.specs.declared.answers.Variable.{Variable}
 use Rattle.dap_debuggee.specs.declared.answers.Assigned.{Assigned}
+use Rattle.dap_recording.specs.Variables.{assigned_to}
 use Rattle.dap_recording.proofs.ReadSteps.{some_same}
 
 -- ---- what holds children
@@ -51,6 +52,10 @@ held-by (Some zs) recorded h ys changed e = changed e
 
 pub held-recorded : (v : Played) → KeepHolders v.recording.variables v.changed → (h : ℕ) (ys : List Variable) → variables_held v h ≡ Some ys → AreRecorded v.recording.variables h ys
 held-recorded v keeps h ys e = held-by (variables_at h v.changed) v.recording.variables h ys (changed-recorded v.recording.variables h ys v.changed keeps) e
+
+-- the text is the value of the one that was found
+pub set-text : (name text : List ℕ) (xs : List Variable) (v : Variable) (a : Assigned) → Some v ≡ variable_named name xs → a ≡ assigned_to text None v → with_assigned name a xs ≡ with_text name text xs
+set-text name text xs v a named is = ap (λ b. with_assigned name b xs) is ∙ ap (λ o. unwrap_or (option_map (λ b. with_assigned name b xs) (option_map (assigned_to text None) o)) xs) named
 
 -- a value more that is set
 pub keep-value : (v : Played) (holder : ℕ) (name text : List ℕ) (xs : List Variable) → KeepHolders v.recording.variables v.changed → variables_held v holder ≡ Some xs → KeepHolders v.recording.variables (with_variables holder (with_text name text xs) v.changed)
