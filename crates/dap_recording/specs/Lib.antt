@@ -5,8 +5,11 @@ pub mod Variables
 pub mod VariableLaws
 pub mod SourceLaws
 pub mod RecordingKey
+pub mod Places
 pub mod Reading
+pub mod Refusals
 pub mod AloneLaw
+pub mod PrivateStops
 pub mod PrivatePaths
 pub mod PrivateHolders
 pub mod PrivateReadThreads
