@@ -51,28 +51,28 @@ variables_in (array es) ds holders is = let same : es ≡ ds = cc in ap (λ x. e
 variables_in (object ms) ds holders is = absurd (cc is)
 
 -- each of an array, which comes from the value that is read
-module _ (d : Data) (given vs : List Value) (i : ℕ) (v : Value) (found : List Variable) (holders first : Holders) (is : Some (items_view given) ≡ as_array d) (same : vs ≡ given) (inside : i < length vs) (at : v ≡ get_or vs i v)
+module _ (d : Data) (given vs : List Value) (i : ℕ) (v : Value) (found : List Variable) (n : ℕ) (holders first : Holders) (count : n ≡ length found) (is : Some (items_view given) ≡ as_array d) (same : vs ≡ given) (inside : i < length vs) (at : v ≡ get_or vs i v)
     (so_far : each_variable (items_view (drop i vs)) found holders ≡ each_variable (items_view vs) [] first) where
   rest : Read (Variable × Holders) → Read (List Variable × Holders)
   rest r = r >>= (λ one. each_variable (items_view (drop (suc i) vs)) (found ++ one.0 ∷ []) one.1)
 
-  whole : variables_of d first ≡ rest (in_element key.Variables (length found) (view v) (variable_row (view v) holders))
+  whole : variables_of d first ≡ rest (in_element key.Variables n (view v) (variable_row (view v) holders))
   unfolding rest
-  whole = variables_in d (items_view given) first is ∙ ap (λ ws. each_variable (items_view ws) [] first) (sym same) ∙ sym so_far ∙ next_variable vs i v found holders inside at
+  whole = rw count (variables_in d (items_view given) first is ∙ ap (λ ws. each_variable (items_view ws) [] first) (sym same) ∙ sym so_far ∙ next_variable vs i v found holders inside at)
 
-  stops_variables : (why : Stop) → Stops why (in_element key.Variables (length found) (view v) (variable_row (view v) holders)) → Stops why (variables_of d first)
+  stops_variables : (why : Stop) → Stops why (in_element key.Variables n (view v) (variable_row (view v) holders)) → Stops why (variables_of d first)
   unfolding rest
-  stops_variables why stops = stops_along why (in_element key.Variables (length found) (view v) (variable_row (view v) holders)) (variables_of d first) stops (λ place e. whole ∙ ap rest e)
+  stops_variables why stops = stops_along why (in_element key.Variables n (view v) (variable_row (view v) holders)) (variables_of d first) stops (λ place e. whole ∙ ap rest e)
 
-  pub bad_variable : (why : Stop) → Stops why (element key.Variables (length found) (view v)) → Stops why (variables_of d first)
-  bad_variable why stops = stops_variables why (no_object key.Variables (length found) (view v) (variable_row (view v) holders) why stops)
+  pub bad_variable : (why : Stop) → Stops why (element key.Variables n (view v)) → Stops why (variables_of d first)
+  bad_variable why stops = stops_variables why (no_object key.Variables n (view v) (variable_row (view v) holders) why stops)
 
-  pub refused_variable : (inner outer : Stop) → element key.Variables (length found) (view v) ≡ Ok tt → Stops inner (variable_row (view v) holders) → StopsWithin key.Variables (length found) inner outer → Stops outer (variables_of d first)
-  refused_variable inner outer passed stops w = stops_variables outer (stopped_element key.Variables (length found) (view v) (variable_row (view v) holders) inner outer passed stops w)
+  pub refused_variable : (inner outer : Stop) → element key.Variables n (view v) ≡ Ok tt → Stops inner (variable_row (view v) holders) → StopsWithin key.Variables n inner outer → Stops outer (variables_of d first)
+  refused_variable inner outer passed stops w = stops_variables outer (stopped_element key.Variables n (view v) (variable_row (view v) holders) inner outer passed stops w)
 
-pub read_variable : (vs : List Value) (i : ℕ) (v : Value) (found : List Variable) (holders first : Holders) (x : Variable) (t : Holders) → i < length vs → v ≡ get_or vs i v
-    → each_variable (items_view (drop i vs)) found holders ≡ each_variable (items_view vs) [] first → element key.Variables (length found) (view v) ≡ Ok tt → variable_row (view v) holders ≡ Ok (x, t)
+pub read_variable : (vs : List Value) (i : ℕ) (v : Value) (found : List Variable) (n : ℕ) (holders first : Holders) (x : Variable) (t : Holders) → n ≡ length found → i < length vs → v ≡ get_or vs i v
+    → each_variable (items_view (drop i vs)) found holders ≡ each_variable (items_view vs) [] first → element key.Variables n (view v) ≡ Ok tt → variable_row (view v) holders ≡ Ok (x, t)
     → each_variable (items_view (drop (suc i) vs)) (found ++ x ∷ []) t ≡ each_variable (items_view vs) [] first
-read_variable vs i v found holders first x t inside at so_far passed is =
-    sym (ap (λ r. r >>= (λ one. each_variable (items_view (drop (suc i) vs)) (found ++ one.0 ∷ []) one.1)) (found_element key.Variables (length found) (view v) (variable_row (view v) holders) (x, t) passed is))
-    ∙ sym (next_variable vs i v found holders inside at) ∙ so_far
+read_variable vs i v found n holders first x t count inside at so_far passed is =
+    sym (ap (λ r. r >>= (λ one. each_variable (items_view (drop (suc i) vs)) (found ++ one.0 ∷ []) one.1)) (found_element key.Variables n (view v) (variable_row (view v) holders) (x, t) passed is))
+    ∙ rw count (sym (next_variable vs i v found holders inside at)) ∙ so_far

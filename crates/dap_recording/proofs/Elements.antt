@@ -53,41 +53,41 @@ found_element k n d found x passed e = as_element k n d found passed ∙ ap (λ 
 
 -- ---- one after the other
 
-module _ {A S : Type 0} (k : RecordingKey) (one : List A → Data → S → Read (A × S)) (vs : List Value) (i : ℕ) (v : Value) (found : List A) (s first : S) (inside : i < length vs) (at : v ≡ get_or vs i v)
+module _ {A S : Type 0} (k : RecordingKey) (one : List A → Data → S → Read (A × S)) (vs : List Value) (i : ℕ) (v : Value) (found : List A) (n : ℕ) (s first : S) (count : n ≡ length found) (inside : i < length vs) (at : v ≡ get_or vs i v)
     (so_far : each k one (items_view (drop i vs)) found s ≡ each k one (items_view vs) [] first) where
-  next_element : each k one (items_view vs) [] first ≡ (in_element k (length found) (view v) (one found (view v) s) >>= (λ next. each k one (items_view (drop (suc i) vs)) (found ++ next.0 ∷ []) next.1))
-  next_element = sym so_far ∙ ap (λ ws. each k one (items_view ws) found s) (drop-cons vs i v inside ∙ ap (λ w. w ∷ drop (suc i) vs) (sym at))
+  next_element : each k one (items_view vs) [] first ≡ (in_element k (n) (view v) (one found (view v) s) >>= (λ next. each k one (items_view (drop (suc i) vs)) (found ++ next.0 ∷ []) next.1))
+  next_element = rw count (sym so_far ∙ ap (λ ws. each k one (items_view ws) found s) (drop-cons vs i v inside ∙ ap (λ w. w ∷ drop (suc i) vs) (sym at)))
 
-  stops_all : (why : Stop) → Stops why (in_element k (length found) (view v) (one found (view v) s)) → Stops why (each k one (items_view vs) [] first)
-  stops_all why stops = stops_along why (in_element k (length found) (view v) (one found (view v) s)) (each k one (items_view vs) [] first) stops
+  stops_all : (why : Stop) → Stops why (in_element k (n) (view v) (one found (view v) s)) → Stops why (each k one (items_view vs) [] first)
+  stops_all why stops = stops_along why (in_element k (n) (view v) (one found (view v) s)) (each k one (items_view vs) [] first) stops
       (λ place e. next_element ∙ ap (λ r. r >>= (λ next. each k one (items_view (drop (suc i) vs)) (found ++ next.0 ∷ []) next.1)) e)
 
   -- an element is no object
-  pub bad_element : (why : Stop) → Stops why (element k (length found) (view v)) → Stops why (each k one (items_view vs) [] first)
-  bad_element why stops = stops_all why (no_object k (length found) (view v) (one found (view v) s) why stops)
+  pub bad_element : (why : Stop) → Stops why (element k (n) (view v)) → Stops why (each k one (items_view vs) [] first)
+  bad_element why stops = stops_all why (no_object k (n) (view v) (one found (view v) s) why stops)
 
   -- what is in it is refused
-  pub refused_element : (inner outer : Stop) → element k (length found) (view v) ≡ Ok tt → Stops inner (one found (view v) s) → StopsWithin k (length found) inner outer → Stops outer (each k one (items_view vs) [] first)
-  refused_element inner outer passed stops w = stops_all outer (stopped_element k (length found) (view v) (one found (view v) s) inner outer passed stops w)
+  pub refused_element : (inner outer : Stop) → element k (n) (view v) ≡ Ok tt → Stops inner (one found (view v) s) → StopsWithin k (n) inner outer → Stops outer (each k one (items_view vs) [] first)
+  refused_element inner outer passed stops w = stops_all outer (stopped_element k (n) (view v) (one found (view v) s) inner outer passed stops w)
 
-  pub read_element : (x : A) (t : S) → element k (length found) (view v) ≡ Ok tt → one found (view v) s ≡ Ok (x, t) → each k one (items_view (drop (suc i) vs)) (found ++ x ∷ []) t ≡ each k one (items_view vs) [] first
-  read_element x t passed is = sym (next_element ∙ ap (λ r. r >>= (λ next. each k one (items_view (drop (suc i) vs)) (found ++ next.0 ∷ []) next.1)) (found_element k (length found) (view v) (one found (view v) s) (x, t) passed is))
+  pub read_element : (x : A) (t : S) → element k (n) (view v) ≡ Ok tt → one found (view v) s ≡ Ok (x, t) → each k one (items_view (drop (suc i) vs)) (found ++ x ∷ []) t ≡ each k one (items_view vs) [] first
+  read_element x t passed is = sym (next_element ∙ ap (λ r. r >>= (λ next. each k one (items_view (drop (suc i) vs)) (found ++ next.0 ∷ []) next.1)) (found_element k (n) (view v) (one found (view v) s) (x, t) passed is))
 
 -- ---- sources
 
-module _ (vs : List Value) (i : ℕ) (v : Value) (found : List RecordedSource) (inside : i < length vs) (at : v ≡ get_or vs i v) (so_far : each_source (items_view (drop i vs)) found ≡ each_source (items_view vs) []) where
-  next_source : each_source (items_view vs) [] ≡ (in_element key.Sources (length found) (view v) (source_of (view v)) >>= (λ source. each_source (items_view (drop (suc i) vs)) (found ++ source ∷ [])))
-  next_source = sym so_far ∙ ap (λ ws. each_source (items_view ws) found) (drop-cons vs i v inside ∙ ap (λ w. w ∷ drop (suc i) vs) (sym at))
+module _ (vs : List Value) (i : ℕ) (v : Value) (found : List RecordedSource) (n : ℕ) (count : n ≡ length found) (inside : i < length vs) (at : v ≡ get_or vs i v) (so_far : each_source (items_view (drop i vs)) found ≡ each_source (items_view vs) []) where
+  next_source : each_source (items_view vs) [] ≡ (in_element key.Sources (n) (view v) (source_of (view v)) >>= (λ source. each_source (items_view (drop (suc i) vs)) (found ++ source ∷ [])))
+  next_source = rw count (sym so_far ∙ ap (λ ws. each_source (items_view ws) found) (drop-cons vs i v inside ∙ ap (λ w. w ∷ drop (suc i) vs) (sym at)))
 
-  stops_sources : (why : Stop) → Stops why (in_element key.Sources (length found) (view v) (source_of (view v))) → Stops why (each_source (items_view vs) [])
-  stops_sources why stops = stops_along why (in_element key.Sources (length found) (view v) (source_of (view v))) (each_source (items_view vs) []) stops
+  stops_sources : (why : Stop) → Stops why (in_element key.Sources (n) (view v) (source_of (view v))) → Stops why (each_source (items_view vs) [])
+  stops_sources why stops = stops_along why (in_element key.Sources (n) (view v) (source_of (view v))) (each_source (items_view vs) []) stops
       (λ place e. next_source ∙ ap (λ r. r >>= (λ source. each_source (items_view (drop (suc i) vs)) (found ++ source ∷ []))) e)
 
-  pub bad_source : (why : Stop) → Stops why (element key.Sources (length found) (view v)) → Stops why (each_source (items_view vs) [])
-  bad_source why stops = stops_sources why (no_object key.Sources (length found) (view v) (source_of (view v)) why stops)
+  pub bad_source : (why : Stop) → Stops why (element key.Sources (n) (view v)) → Stops why (each_source (items_view vs) [])
+  bad_source why stops = stops_sources why (no_object key.Sources (n) (view v) (source_of (view v)) why stops)
 
-  pub refused_source : (inner outer : Stop) → element key.Sources (length found) (view v) ≡ Ok tt → Stops inner (source_of (view v)) → StopsWithin key.Sources (length found) inner outer → Stops outer (each_source (items_view vs) [])
-  refused_source inner outer passed stops w = stops_sources outer (stopped_element key.Sources (length found) (view v) (source_of (view v)) inner outer passed stops w)
+  pub refused_source : (inner outer : Stop) → element key.Sources (n) (view v) ≡ Ok tt → Stops inner (source_of (view v)) → StopsWithin key.Sources (n) inner outer → Stops outer (each_source (items_view vs) [])
+  refused_source inner outer passed stops w = stops_sources outer (stopped_element key.Sources (n) (view v) (source_of (view v)) inner outer passed stops w)
 
-  pub read_source : (x : RecordedSource) → element key.Sources (length found) (view v) ≡ Ok tt → source_of (view v) ≡ Ok x → each_source (items_view (drop (suc i) vs)) (found ++ x ∷ []) ≡ each_source (items_view vs) []
-  read_source x passed is = sym (next_source ∙ ap (λ r. r >>= (λ source. each_source (items_view (drop (suc i) vs)) (found ++ source ∷ []))) (found_element key.Sources (length found) (view v) (source_of (view v)) x passed is))
+  pub read_source : (x : RecordedSource) → element key.Sources (n) (view v) ≡ Ok tt → source_of (view v) ≡ Ok x → each_source (items_view (drop (suc i) vs)) (found ++ x ∷ []) ≡ each_source (items_view vs) []
+  read_source x passed is = sym (next_source ∙ ap (λ r. r >>= (λ source. each_source (items_view (drop (suc i) vs)) (found ++ source ∷ []))) (found_element key.Sources (n) (view v) (source_of (view v)) x passed is))

@@ -94,17 +94,11 @@ fn variables(
     };
     let mut found = Vec::with_capacity(texts.alloc, items.len())?;
     for item in items {
-        stop::element(texts.alloc, item, RecordingKey::Variables, found.len())?;
+        let index = found.len();
+        stop::element(texts.alloc, item, RecordingKey::Variables, index)?;
         match variable(texts, item, holders) {
             Ok(variable) => found.push(variable)?,
-            Err(why) => {
-                return Err(stop::within(
-                    texts.alloc,
-                    why,
-                    RecordingKey::Variables,
-                    found.len(),
-                ));
-            }
+            Err(why) => return Err(stop::within(texts.alloc, why, RecordingKey::Variables, index)),
         }
     }
     Ok(found)
@@ -138,17 +132,11 @@ fn each_scope(
 {
     let mut found = Vec::with_capacity(texts.alloc, items.len())?;
     for item in items {
-        stop::element(texts.alloc, item, RecordingKey::Scopes, found.len())?;
+        let index = found.len();
+        stop::element(texts.alloc, item, RecordingKey::Scopes, index)?;
         match scope(texts, item, holders) {
             Ok(scope) => found.push(scope)?,
-            Err(why) => {
-                return Err(stop::within(
-                    texts.alloc,
-                    why,
-                    RecordingKey::Scopes,
-                    found.len(),
-                ));
-            }
+            Err(why) => return Err(stop::within(texts.alloc, why, RecordingKey::Scopes, index)),
         }
     }
     Ok(found)
@@ -292,21 +280,15 @@ fn frames(
     items: &[Value],
     numbers: &mut Numbers,
 ) -> Result<Vec<Frame>, Stop>
-    ensures { FindsListWith result numbers.new (each (λ earlier. frame_of teller sources.now) (items_view items.now) [] numbers.old) }
+    ensures { FindsListWith result numbers.new (each key.Frames (λ earlier. frame_of teller sources.now) (items_view items.now) [] numbers.old) }
 {
     let mut found = Vec::with_capacity(texts.alloc, items.len())?;
     for item in items {
-        stop::element(texts.alloc, item, RecordingKey::Frames, found.len())?;
+        let index = found.len();
+        stop::element(texts.alloc, item, RecordingKey::Frames, index)?;
         match frame(texts, teller, sources, item, numbers) {
             Ok(frame) => found.push(frame)?,
-            Err(why) => {
-                return Err(stop::within(
-                    texts.alloc,
-                    why,
-                    RecordingKey::Frames,
-                    found.len(),
-                ));
-            }
+            Err(why) => return Err(stop::within(texts.alloc, why, RecordingKey::Frames, index)),
         }
     }
     Ok(found)
@@ -381,21 +363,15 @@ fn threads(
     items: &[Value],
     numbers: &mut Numbers,
 ) -> Result<Vec<RecordedThread>, Stop>
-    ensures { FindsListWith result numbers.new (each (thread_of teller sources.now) (items_view items.now) [] numbers.old) }
+    ensures { FindsListWith result numbers.new (each key.Threads (thread_of teller sources.now) (items_view items.now) [] numbers.old) }
 {
     let mut found = ReadThreads::with_capacity(texts.alloc, items.len())?;
     for item in items {
-        stop::element(texts.alloc, item, RecordingKey::Threads, found.len())?;
+        let index = found.len();
+        stop::element(texts.alloc, item, RecordingKey::Threads, index)?;
         match thread(texts, teller, sources, &found, item, numbers) {
             Ok(thread) => found = found.with(thread)?,
-            Err(why) => {
-                return Err(stop::within(
-                    texts.alloc,
-                    why,
-                    RecordingKey::Threads,
-                    found.len(),
-                ));
-            }
+            Err(why) => return Err(stop::within(texts.alloc, why, RecordingKey::Threads, index)),
         }
     }
     Ok(found.into_vec())
@@ -474,17 +450,11 @@ fn moments(
 {
     let mut found = Vec::with_capacity(texts.alloc, items.len())?;
     for item in items {
-        stop::element(texts.alloc, item, RecordingKey::Moments, found.len())?;
+        let index = found.len();
+        stop::element(texts.alloc, item, RecordingKey::Moments, index)?;
         match moment(texts, Teller::Recording, sources, item, numbers) {
             Ok(moment) => found.push(moment)?,
-            Err(why) => {
-                return Err(stop::within(
-                    texts.alloc,
-                    why,
-                    RecordingKey::Moments,
-                    found.len(),
-                ));
-            }
+            Err(why) => return Err(stop::within(texts.alloc, why, RecordingKey::Moments, index)),
         }
     }
     Ok(found)
@@ -516,17 +486,11 @@ pub(crate) fn sources(
 {
     let mut found = Vec::with_capacity(texts.alloc, items.len())?;
     for item in items {
-        stop::element(texts.alloc, item, RecordingKey::Sources, found.len())?;
+        let index = found.len();
+        stop::element(texts.alloc, item, RecordingKey::Sources, index)?;
         match source(texts, item) {
             Ok(source) => found.push(source)?,
-            Err(why) => {
-                return Err(stop::within(
-                    texts.alloc,
-                    why,
-                    RecordingKey::Sources,
-                    found.len(),
-                ));
-            }
+            Err(why) => return Err(stop::within(texts.alloc, why, RecordingKey::Sources, index)),
         }
     }
     Ok(found)

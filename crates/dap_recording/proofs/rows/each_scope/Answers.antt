@@ -8,13 +8,13 @@ pub returns-in_err-element : goal.returns-in_err-element
 unfolding scopes_of
 returns-in_err-element c =
     let is : c.from_residual-in_err-element.result ≡ Err c.in_err-element.field-0.0 = search rules in
-    rw is (bad_element key.Scopes (λ earlier. scope_of) c.args.items.now c.loop-item.item-index c.item-item.result c.loop-item.found.items c.loop-item.holders.items c.args.holders.now.items c.loop-item-test.true c.item-item.is c.loop-item.invariant c.in_err-element.field-0.0 c.in_err-element.ensures)
+    rw is (bad_element key.Scopes (λ earlier. scope_of) c.args.items.now c.loop-item.item-index c.item-item.result c.loop-item.found.items c.len-index.result c.loop-item.holders.items c.args.holders.now.items (search rules) c.loop-item-test.true c.item-item.is c.loop-item.invariant c.in_err-element.field-0.0 c.in_err-element.ensures)
 
 pub returns-in-Err : goal.returns-in-Err
 unfolding scopes_of
 returns-in-Err c =
-    refused_element key.Scopes (λ earlier. scope_of) c.args.items.now c.loop-item.item-index c.item-item.result c.loop-item.found.items c.loop-item.holders.items c.args.holders.now.items c.loop-item-test.true c.item-item.is c.loop-item.invariant c.in-Err.why c.within.result c.in_ok-element.ensures c.in-Err.ensures c.within.ensures
+    refused_element key.Scopes (λ earlier. scope_of) c.args.items.now c.loop-item.item-index c.item-item.result c.loop-item.found.items c.len-index.result c.loop-item.holders.items c.args.holders.now.items (search rules) c.loop-item-test.true c.item-item.is c.loop-item.invariant c.in-Err.why c.within.result c.in_ok-element.ensures c.in-Err.ensures c.within.ensures
 
 pub loop-item-preserved : goal.loop-item-preserved
 loop-item-preserved c =
-    rw (add-one, c.in_ok-push.ensures.items) (read_element key.Scopes (λ earlier. scope_of) c.args.items.now c.loop-item.item-index c.item-item.result c.loop-item.found.items c.loop-item.holders.items c.args.holders.now.items c.loop-item-test.true c.item-item.is c.loop-item.invariant c.in-Ok.scope c.scope.new.holders.items c.in_ok-element.ensures c.in-Ok.ensures)
+    rw (add-one, c.in_ok-push-in-Ok.ensures.items) (read_element key.Scopes (λ earlier. scope_of) c.args.items.now c.loop-item.item-index c.item-item.result c.loop-item.found.items c.len-index.result c.loop-item.holders.items c.args.holders.now.items (search rules) c.loop-item-test.true c.item-item.is c.loop-item.invariant c.in-Ok.scope c.scope.new.holders.items c.in_ok-element.ensures c.in-Ok.ensures)

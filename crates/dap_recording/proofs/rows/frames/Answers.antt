@@ -7,12 +7,12 @@ use Rattle.dap_recording.proofs.rows.frames.Goals as goal
 pub returns-in_err-element : goal.returns-in_err-element
 returns-in_err-element c =
     let is : c.from_residual-in_err-element.result ≡ Err c.in_err-element.field-0.0 = search rules in
-    rw is (bad_element key.Frames (λ earlier. frame_of c.args.teller c.args.sources.now) c.args.items.now c.loop-item.item-index c.item-item.result c.loop-item.found.items c.loop-item.numbers c.args.numbers.now c.loop-item-test.true c.item-item.is c.loop-item.invariant c.in_err-element.field-0.0 c.in_err-element.ensures)
+    rw is (bad_element key.Frames (λ earlier. frame_of c.args.teller c.args.sources.now) c.args.items.now c.loop-item.item-index c.item-item.result c.loop-item.found.items c.len-index.result c.loop-item.numbers c.args.numbers.now (search rules) c.loop-item-test.true c.item-item.is c.loop-item.invariant c.in_err-element.field-0.0 c.in_err-element.ensures)
 
 pub returns-in-Err : goal.returns-in-Err
 returns-in-Err c =
-    refused_element key.Frames (λ earlier. frame_of c.args.teller c.args.sources.now) c.args.items.now c.loop-item.item-index c.item-item.result c.loop-item.found.items c.loop-item.numbers c.args.numbers.now c.loop-item-test.true c.item-item.is c.loop-item.invariant c.in-Err.why c.within.result c.in_ok-element.ensures c.in-Err.ensures c.within.ensures
+    refused_element key.Frames (λ earlier. frame_of c.args.teller c.args.sources.now) c.args.items.now c.loop-item.item-index c.item-item.result c.loop-item.found.items c.len-index.result c.loop-item.numbers c.args.numbers.now (search rules) c.loop-item-test.true c.item-item.is c.loop-item.invariant c.in-Err.why c.within.result c.in_ok-element.ensures c.in-Err.ensures c.within.ensures
 
 pub loop-item-preserved : goal.loop-item-preserved
 loop-item-preserved c =
-    rw (add-one, c.in_ok-push.ensures.items) (read_element key.Frames (λ earlier. frame_of c.args.teller c.args.sources.now) c.args.items.now c.loop-item.item-index c.item-item.result c.loop-item.found.items c.loop-item.numbers c.args.numbers.now c.loop-item-test.true c.item-item.is c.loop-item.invariant c.in-Ok.frame c.frame.new.numbers c.in_ok-element.ensures c.in-Ok.ensures)
+    rw (add-one, c.in_ok-push-in-Ok.ensures.items) (read_element key.Frames (λ earlier. frame_of c.args.teller c.args.sources.now) c.args.items.now c.loop-item.item-index c.item-item.result c.loop-item.found.items c.len-index.result c.loop-item.numbers c.args.numbers.now (search rules) c.loop-item-test.true c.item-item.is c.loop-item.invariant c.in-Ok.frame c.frame.new.numbers c.in_ok-element.ensures c.in-Ok.ensures)
