@@ -27,11 +27,11 @@ Near r q = (r ≡ q) ⊎ (keyed r ≡ Err key.Source)
 
 bad_next : {A B : Type 0} (k : RecordingKey) (r : Read A) (f : A → Read B) → keyed r ≡ Err k → keyed (r >>= f) ≡ Err k
 bad_next k (Ok x) f e = absurd (cc e)
-bad_next k (Err place) f e = e
+bad_next k (Err place) f e = let same : place.key ≡ k = cc in ap (λ z. Err z) same
 
-bad_in_place : {A : Type 0} (k array : RecordingKey) (n : ℕ) (r : Read A) → keyed r ≡ Err k → keyed (in_place array n r) ≡ Err k
-bad_in_place k array n (Ok x) e = absurd (cc e)
-bad_in_place k array n (Err place) e = e
+bad_in_place : {A : Type 0} (k outer : RecordingKey) (n : ℕ) (r : Read A) → keyed r ≡ Err k → keyed (in_place outer n r) ≡ Err k
+bad_in_place k outer n (Ok x) e = absurd (cc e)
+bad_in_place k outer n (Err place) e = e
 
 near_next : {A B : Type 0} (r : Read A) (f g : A → Read B) → ((x : A) → Near (f x) (g x)) → Near (r >>= f) (r >>= g)
 near_next (Ok x) f g next = next x
@@ -103,7 +103,7 @@ in_recording sources r = keyed ((r >>= (λ next. each key.Moments (λ earlier. m
 
 -- a moment alone, put into a recording
 abbrev by_itself : List RecordedSource → Read (Unit {0}) → Read (Moment × Numbered) → Result Recording RecordingKey
-by_itself sources object r = keyed (object >> (r >>= (λ moment. Ok (numbered_alone (length sources) moment)))) >>= (λ s. Ok (only sources s))
+by_itself sources tested r = keyed (tested >> (r >>= (λ moment. Ok (numbered_alone (length sources) moment)))) >>= (λ s. Ok (only sources s))
 
 same_one : (sources : List RecordedSource) (r : Read (Moment × Numbered)) → in_recording sources (in_place key.Moments 0 r) ≡ by_itself sources (Ok tt) r
 same_one sources (Ok next) = refl

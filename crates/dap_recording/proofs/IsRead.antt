@@ -401,10 +401,6 @@ alone_holds sources d m object read =
       spans = spans_read teller.Host sources (item d no_items) moments all 0 m.0 refl;
     }
 
-pub read_holds : (d : Data) (result : Result Recording Stop) → Finds result (recording_of d) → IfOk result (λ r. IsRecording r)
-read_holds d (Ok r) gives = is_read d r gives
-read_holds d (Err stop) gives = tt
-
 or_ok : (read : Read Recording) (r : Recording) → or_fault read ≡ Ok r → read ≡ Ok r
 or_ok (Ok x) r e = let same : x ≡ r = cc in ap Ok same
 or_ok (Err k) r e = absurd (cc e)

@@ -61,8 +61,8 @@ exit_taken d ms seen exit is holds = record {
 -- one moment more
 pub one_moment : (sources : List RecordedSource) (d : Data) (later : Items) (found : List Moment) (s t : Numbered) (m : Moment) → is_object d ≡ true → moment_of teller.Recording sources d s ≡ Ok (m, t)
     → each key.Moments (λ earlier. moment_of teller.Recording sources) (item d later) found s ≡ each key.Moments (λ earlier. moment_of teller.Recording sources) later (found ++ m ∷ []) t
-one_moment sources d later found s t m object is =
-    let inside : in_element key.Moments (length found) d (moment_of teller.Recording sources d s) ≡ Ok (m, t) = ap (in_element key.Moments (length found) d) is ∙ rw object refl in
+one_moment sources d later found s t m is_one is =
+    let inside : in_element key.Moments (length found) d (moment_of teller.Recording sources d s) ≡ Ok (m, t) = ap (in_element key.Moments (length found) d) is ∙ rw is_one refl in
     ap (λ r. r >>= (λ next. each key.Moments (λ earlier. moment_of teller.Recording sources) later (found ++ next.0 ∷ []) next.1)) inside
 
 -- the sources come, while no moments did

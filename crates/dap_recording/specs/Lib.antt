@@ -1,5 +1,6 @@
 pub mod Recording
 pub mod Sources
+pub mod Lent
 pub mod Snapshot
 pub mod Variables
 pub mod VariableLaws

@@ -56,7 +56,7 @@ pub fn with_value(
     name: &str,
     value: &str,
 ) -> Result<Vec<Variable>, AllocError>
-    ensures { IfOk result (λ changed. changed.items ≡ with_value_in name.now value.now variables.now) }
+    ensures { IfOk result (λ v. v.items ≡ with_value_in name.now value.now variables.now) }
 {
     let mut changed = Vec::with_capacity(alloc, variables.len())?;
     let mut is_set = false;
