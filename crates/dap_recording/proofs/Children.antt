@@ -1,5 +1,5 @@
 -- The variables of a variable stand at its key for them, and nest less deep than it.
-use Rattle.std.proofs.Common.{◌≡◌, ℕ, suc, ◌<◌, List, [], ◌∷◌, length, get_or, Ordering, Less, Equal, Greater, Option, Some, Ok, Err, drop, ◌++◌, drop-cons, refl, sym, ap, ◌∙◌}
+use Rattle.std.proofs.Common.{◌≡◌, ℕ, suc, ◌<◌, List, [], ◌∷◌, length, get_or, Ordering, Less, Equal, Greater, Option, Some, Ok, drop, ◌++◌, drop-cons, refl, sym, ap, ◌∙◌}
 use Rattle.std.specs.Ordering.{nat_cmp, match_ordering}
 use Rattle.std.specs.Cmp.Lexicographic.{slice_cmp}
 use Rattle.serde_json.specs.Data.{Data, null, boolean, number, string, array, object, Items, Members, no_members, member}

@@ -7,7 +7,7 @@ use Rattle.serde_json.specs.declared.value.Value.{Value}
 use Rattle.serde_json.proofs.Views.{items_len-items_view}
 use Rattle.dap_json.specs.Field.{is_object}
 use Rattle.dap_json.specs.Steps.{◌>>=◌}
-use Rattle.dap_recording.specs.Places.{Read, in_place, in_element, element, within}
+use Rattle.dap_recording.specs.Places.{Read, in_place, in_element, element}
 use Rattle.dap_recording.specs.PrivateStops.{Stops, StopsWithin}
 use Rattle.dap_recording.specs.Reading.{each, each_source, source_of}
 use Rattle.dap_recording.specs.declared.place.BadPlace.{BadPlace}

@@ -1,5 +1,5 @@
 -- What is read of a recording holds of every recording.
-use Rattle.std.proofs.Common.{◌≡◌, ℕ, suc, ◌+◌, ◌<◌, ◌≤◌, ◌&&◌, ℤ, pos, Bool, true, false, not, nat_le, nat_lt, nat_eq, if◌then◌else◌, List, [], ◌∷◌, ◌++◌, length, map, Option, Some, None, is_some, option_and_then, option_map, unwrap_or, Result, Ok, Err, IfOk, length-append, append_assoc, append-nil, eq-eqb, refl, sym, ap, subst, ◌∙◌, arith, true≢false}
+use Rattle.std.proofs.Common.{◌≡◌, ℕ, suc, ◌+◌, ◌<◌, ◌≤◌, ◌&&◌, ℤ, Bool, true, false, not, nat_le, nat_lt, nat_eq, if◌then◌else◌, List, [], ◌∷◌, ◌++◌, length, map, Option, Some, None, is_some, option_and_then, option_map, unwrap_or, Ok, Err, length-append, append_assoc, append-nil, eq-eqb, refl, sym, ap, subst, ◌∙◌, arith, true≢false}
 use Rattle.std.proofs.lemmas.Bool.{leb-true, ltb-true, lt-ltb, and_parts, and_from}
 use Rattle.std.proofs.lemmas.Grind.{flat_map-append}
 use Rattle.std.proofs.lemmas.List.{map-append}
@@ -8,24 +8,21 @@ use Rattle.std.specs.List.{list_all}
 use Rattle.std.specs.Ordering.{int_eq}
 use Rattle.serde_json.specs.Data.{Data, Items, no_items, item}
 use Rattle.serde_json.specs.Events.{items_len}
-use Rattle.serde_json.specs.Find.{as_number, as_u64, as_i64, as_str, as_bool, as_array}
+use Rattle.serde_json.specs.Find.{as_number, as_u64, as_i64, as_str, as_array}
 use Rattle.dap_json.specs.Field.{if_passes, is_object}
 use Rattle.dap_json.specs.Steps.{◌>>=◌}
 use Rattle.dap_command.specs.Numbers.{is_int, int_of, number_of}
 use Rattle.dap_debuggee.specs.Laws.{is_place, is_frame}
 use Rattle.dap_recording.specs.Places.{Read, other_than, value_at, or_here, present_at, due_at, any_in, optional_at, in_element}
-use Rattle.dap_recording.specs.PrivateStops.{Finds}
-use Rattle.dap_recording.specs.Reading.{or_fault, verdict_of, text_at, text_if_any, optional_text_at, short_text_at, flag_at, items_at, items_if_any, more_at, some_items, few_items, exit_at, source_at, line_at, new_id_at, thread_place_at, exit_of, line_of, source_place, lines_at, short_text, frame_source, frame_line, untold_of, stop_with, stop_of, none_numbered, place_of, new_id, thread_place, Numbered, each, each_source, source_rows, scopes_of, frame_of, thread_of, moment_of, moments_of, source_of, sources_at, recording_of, numbered_alone}
+use Rattle.dap_recording.specs.Reading.{or_fault, verdict_of, text_at, text_if_any, optional_text_at, short_text_at, flag_at, items_at, items_if_any, more_at, some_items, few_items, exit_at, source_at, line_at, new_id_at, thread_place_at, line_of, source_place, lines_at, short_text, frame_source, frame_line, untold_of, stop_with, stop_of, none_numbered, place_of, new_id, thread_place, Numbered, each, each_source, source_rows, scopes_of, frame_of, thread_of, moment_of, moments_of, source_of, sources_at, recording_of, numbered_alone}
 use Rattle.dap_recording.specs.AloneLaw.{RecordingsAreFiles}
 use Rattle.dap_recording.specs.Snapshot.{IsAlone}
 use Rattle.dap_recording.specs.Recording.{objects_of, IsRecording, line_count, is_thread, is_moment, is_rising, are_distinct, is_short_text, is_short_stop, has_short_stop}
 use Rattle.dap_debuggee.specs.declared.answers.Frame.{Frame}
-use Rattle.dap_recording.specs.declared.reading.RecordingFault.{RecordingFault}
 use Rattle.dap_recording.specs.declared.reading.RecordingFault.TheVariants.{NotObject}
 use Rattle.dap_recording.specs.declared.place.BadCause.{BadCause}
 use Rattle.dap_recording.specs.declared.place.BadPlace.{BadPlace}
 use Rattle.dap_recording.specs.declared.place.JsonKind.TheVariants as kind
-use Rattle.dap_recording.specs.declared.stop.Stop.{Stop}
 use Rattle.dap_recording.specs.declared.reading.RecordingKey.{RecordingKey}
 use Rattle.dap_recording.specs.declared.reading.RecordingKey.TheVariants as key
 use Rattle.dap_recording.specs.declared.reading.Teller.{Teller}

@@ -1,5 +1,5 @@
 -- Words for the private functions that read a recording with no tree of the whole.
-use Rattle.std.specs.Prelude.{◌≡◌, ℤ, List, [], Some, Ok}
+use Rattle.std.specs.Prelude.{◌≡◌, ℤ, List, Some, Ok}
 use Rattle.serde_json.specs.Data.{Members, object}
 use Rattle.dap_json.specs.Steps.{◌>>=◌}
 use Rattle.dap_recording.specs.Places.{Read, present_at}

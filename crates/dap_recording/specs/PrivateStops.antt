@@ -1,5 +1,5 @@
 -- Words for the private functions that read rows of keys: why one stops, and what it gives.
-use Rattle.std.specs.Prelude.{◌≡◌, ℕ, List, Result, Ok, Err, Vec, Box}
+use Rattle.std.specs.Prelude.{◌≡◌, ℕ, List, Result, Err, Vec}
 use Rattle.std.specs.Borrow.{Bor}
 use Rattle.std.specs.declared.alloc.Global.{Global}
 use Rattle.serde_json.specs.Data.{Data, Items}
