@@ -4,12 +4,12 @@ use Rattle.std.specs.Fmt.{digits}
 use Rattle.dap_reason.specs.Recordings.{words_of_refusal_found}
 use Rattle.dap_recording.specs.declared.reading.RecordingKey.{RecordingKey}
 use Rattle.dap_recording.specs.declared.reading.RecordingKey.TheVariants as key
-use Rattle.dap_refusal.specs.declared.refusal.BadCause.{BadCause}
-use Rattle.dap_refusal.specs.declared.refusal.BadCause.TheVariants.{Absent, OtherKind, NoElements, TooMany, TooLong, OutOfRange, NoSource, PastLines, DuplicateId, NoThread}
-use Rattle.dap_refusal.specs.declared.refusal.Element.{Element}
-use Rattle.dap_refusal.specs.declared.refusal.JsonKind.TheVariants as kind
-use Rattle.dap_refusal.specs.declared.refusal.RecordingRefusal.{RecordingRefusal}
-use Rattle.dap_refusal.specs.declared.refusal.RecordingRefusal.TheVariants.{NotJson, NotObject, BadKey}
+use Rattle.dap_recording.specs.declared.place.BadCause.{BadCause}
+use Rattle.dap_recording.specs.declared.place.BadCause.TheVariants.{Absent, OtherKind, NoElements, TooMany, TooLong, OutOfRange, NoSource, PastLines, DuplicateId, NoThread}
+use Rattle.dap_recording.specs.declared.place.Element.{Element}
+use Rattle.dap_recording.specs.declared.place.JsonKind.TheVariants as kind
+use Rattle.dap_recording.specs.declared.place.RecordingRefusal.{RecordingRefusal}
+use Rattle.dap_recording.specs.declared.place.RecordingRefusal.TheVariants.{NotJson, NotObject, BadKey}
 
 abbrev at : RecordingKey → ℕ → Element
 at k n = record { array = k; index = n }

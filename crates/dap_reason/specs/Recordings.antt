@@ -4,17 +4,17 @@ use Rattle.std.specs.Fmt.{signed_decimal}
 use Rattle.dap_json.specs.Read.{json_of}
 use Rattle.dap_explain.specs.Sentences.{joined_text}
 use Rattle.dap_recording.specs.RecordingKey.{name_of}
-use Rattle.dap_refusal.specs.Refusals.{refusal_of}
+use Rattle.dap_recording.specs.Refusals.{refusal_of}
 use Rattle.dap_recording.specs.declared.reading.RecordingFault.{RecordingFault}
 use Rattle.dap_recording.specs.declared.reading.RecordingFault.TheVariants as recording
-use Rattle.dap_refusal.specs.declared.refusal.BadCause.{BadCause}
-use Rattle.dap_refusal.specs.declared.refusal.BadCause.TheVariants.{Absent, OtherKind, NoElements, TooMany, TooLong, OutOfRange, NotPlain, NoSource, PastLines, DuplicateId, NoThread}
-use Rattle.dap_refusal.specs.declared.refusal.BadPlace.{BadPlace}
-use Rattle.dap_refusal.specs.declared.refusal.Element.{Element}
-use Rattle.dap_refusal.specs.declared.refusal.JsonKind.{JsonKind}
-use Rattle.dap_refusal.specs.declared.refusal.JsonKind.TheVariants as kind
-use Rattle.dap_refusal.specs.declared.refusal.RecordingRefusal.{RecordingRefusal}
-use Rattle.dap_refusal.specs.declared.refusal.RecordingRefusal.TheVariants as refusal
+use Rattle.dap_recording.specs.declared.place.BadCause.{BadCause}
+use Rattle.dap_recording.specs.declared.place.BadCause.TheVariants.{Absent, OtherKind, NoElements, TooMany, TooLong, OutOfRange, NotPlain, NoSource, PastLines, DuplicateId, NoThread}
+use Rattle.dap_recording.specs.declared.place.BadPlace.{BadPlace}
+use Rattle.dap_recording.specs.declared.place.Element.{Element}
+use Rattle.dap_recording.specs.declared.place.JsonKind.{JsonKind}
+use Rattle.dap_recording.specs.declared.place.JsonKind.TheVariants as kind
+use Rattle.dap_recording.specs.declared.place.RecordingRefusal.{RecordingRefusal}
+use Rattle.dap_recording.specs.declared.place.RecordingRefusal.TheVariants as refusal
 
 abbrev pub words_of_kind : JsonKind → List ℕ
 words_of_kind kind.Null = codes "null"

@@ -1,5 +1,5 @@
 -- What is read of a recording holds of every recording.
-use Rattle.std.proofs.Common.{◌≡◌, ℕ, suc, ◌+◌, ◌<◌, ◌≤◌, ◌&&◌, ℤ, pos, Bool, true, false, not, nat_le, nat_lt, nat_eq, if◌then◌else◌, List, [], ◌∷◌, ◌++◌, length, map, Option, Some, None, is_some, option_and_then, option_map, unwrap_or, Result, Ok, Err, IfOk, length-append, append_assoc, append-nil, eq-eqb, refl, sym, ap, subst, ◌∙◌, arith, true≢false}
+use Rattle.std.proofs.Common.{◌≡◌, ℕ, suc, ◌+◌, ◌<◌, ◌≤◌, ◌&&◌, ℤ, Bool, true, false, not, nat_le, nat_lt, nat_eq, if◌then◌else◌, List, [], ◌∷◌, ◌++◌, length, map, Option, Some, None, is_some, option_and_then, option_map, unwrap_or, Ok, Err, length-append, append_assoc, append-nil, eq-eqb, refl, sym, ap, subst, ◌∙◌, arith, true≢false}
 use Rattle.std.proofs.lemmas.Bool.{leb-true, ltb-true, lt-ltb, and_parts, and_from}
 use Rattle.std.proofs.lemmas.Grind.{flat_map-append}
 use Rattle.std.proofs.lemmas.List.{map-append}
@@ -8,19 +8,21 @@ use Rattle.std.specs.List.{list_all}
 use Rattle.std.specs.Ordering.{int_eq}
 use Rattle.serde_json.specs.Data.{Data, Items, no_items, item}
 use Rattle.serde_json.specs.Events.{items_len}
-use Rattle.serde_json.specs.Find.{as_number, as_u64, as_i64, as_str, as_bool, as_array}
+use Rattle.serde_json.specs.Find.{as_number, as_u64, as_i64, as_str, as_array}
 use Rattle.dap_json.specs.Field.{if_passes, is_object}
 use Rattle.dap_json.specs.Steps.{◌>>=◌}
 use Rattle.dap_command.specs.Numbers.{is_int, int_of, number_of}
 use Rattle.dap_debuggee.specs.Laws.{is_place, is_frame}
-use Rattle.dap_json.specs.More.{more_of}
-use Rattle.dap_recording.specs.Reading.{Read, Gives, or_fault, verdict_of, or_bad, required_at, optional_at, optional_or, element, value_at, some_items, few_items, few_in, exit_of, line_of, source_place, lines_at, short_text, in_shape, frame_source, frame_line, untold_of, stop_with, stop_of, none_numbered, place_of, new_id, thread_place, Numbered, each, each_source, scopes_of, frame_of, thread_of, moment_of, moments_of, source_of, sources_at, recording_of, numbered_alone}
+use Rattle.dap_recording.specs.Places.{Read, other_than, value_at, or_here, present_at, due_at, any_in, optional_at, in_element}
+use Rattle.dap_recording.specs.Reading.{or_fault, verdict_of, text_at, text_if_any, optional_text_at, short_text_at, flag_at, items_at, items_if_any, more_at, some_items, few_items, exit_at, source_at, line_at, new_id_at, thread_place_at, line_of, source_place, lines_at, short_text, frame_source, frame_line, untold_of, stop_with, stop_of, none_numbered, place_of, new_id, thread_place, Numbered, each, each_source, source_rows, scopes_of, frame_of, thread_of, moment_of, moments_of, source_of, sources_at, recording_of, numbered_alone}
 use Rattle.dap_recording.specs.AloneLaw.{RecordingsAreFiles}
 use Rattle.dap_recording.specs.Snapshot.{IsAlone}
 use Rattle.dap_recording.specs.Recording.{objects_of, IsRecording, line_count, is_thread, is_moment, is_rising, are_distinct, is_short_text, is_short_stop, has_short_stop}
 use Rattle.dap_debuggee.specs.declared.answers.Frame.{Frame}
-use Rattle.dap_recording.specs.declared.reading.RecordingFault.{RecordingFault}
 use Rattle.dap_recording.specs.declared.reading.RecordingFault.TheVariants.{NotObject}
+use Rattle.dap_recording.specs.declared.place.BadCause.{BadCause}
+use Rattle.dap_recording.specs.declared.place.BadPlace.{BadPlace}
+use Rattle.dap_recording.specs.declared.place.JsonKind.TheVariants as kind
 use Rattle.dap_recording.specs.declared.reading.RecordingKey.{RecordingKey}
 use Rattle.dap_recording.specs.declared.reading.RecordingKey.TheVariants as key
 use Rattle.dap_recording.specs.declared.reading.Teller.{Teller}
@@ -30,31 +32,30 @@ use Rattle.dap_recording.specs.declared.recording.RecordedThread.{RecordedThread
 use Rattle.dap_recording.specs.declared.recording.OwnStop.{OwnStop}
 use Rattle.dap_recording.specs.declared.recording.Moment.{Moment}
 use Rattle.dap_recording.specs.declared.recording.Recording.{Recording}
-use Rattle.dap_recording.proofs.ReadSteps.{some_same, ok_same, then_ok, bind_ok, with_ok, each_holds}
+use Rattle.dap_recording.proofs.ReadSteps.{some_same, ok_same, bind_ok, with_ok, element_ok, each_holds}
 use Rattle.dap_recording.proofs.HoldersRead.{holders_once}
 use Rattle.dap_recording.proofs.SpansRead.{spans_read}
 
 -- ---- what was read, step by step
 
-bad_is : {A : Type 0} (k : RecordingKey) (o : Option A) (x : A) → or_bad k o ≡ Ok x → o ≡ Some x
-bad_is k None x e = absurd (cc e)
-bad_is k (Some y) x e = ap Some (ok_same y x e)
+here_is : {A : Type 0} (k : RecordingKey) (cause : BadCause) (o : Option A) (x : A) → or_here k cause o ≡ Ok x → o ≡ Some x
+here_is k cause None x e = absurd (cc e)
+here_is k cause (Some y) x e = ap Some (ok_same y x e)
 
-and_then_is : {A : Type 0} (shape : Data → Option A) (o : Option Data) (x : A) → option_and_then shape o ≡ Some x → (v : Data) × (shape v ≡ Some x)
-and_then_is shape None x e = absurd (cc e)
-and_then_is shape (Some v) x e = (v, e)
-
-required_is : {A : Type 0} (shape : Data → Option A) (k : RecordingKey) (d : Data) (x : A) → required_at shape k d ≡ Ok x → (v : Data) × (shape v ≡ Some x)
-required_is shape k d x e = and_then_is shape (value_at k d) x (bad_is k (option_and_then shape (value_at k d)) x e)
+due_is : {A : Type 0} (shape : Data → Option A) (cause : Data → BadCause) (k : RecordingKey) (d : Data) (x : A) → due_at shape cause k d ≡ Ok x → (v : Data) × (shape v ≡ Some x)
+due_is shape cause k d x e = with_ok (present_at k d) _ x e (λ v there e1. (v, here_is k (cause v) (shape v) x e1))
 
 mapped_is : {A : Type 0} (o : Option A) (x : A) → option_map Some o ≡ Some (Some x) → o ≡ Some x
 mapped_is None x e = absurd (cc e)
 mapped_is (Some y) x e = some_same (Some y) (Some x) e
 
 -- what is there, of a value that may be absent
-in_shape_is : {A : Type 0} (shape : Data → Option A) (k : RecordingKey) (o : Option Data) (x : A) → in_shape shape k o ≡ Ok (Some x) → (v : Data) × (shape v ≡ Some x)
-in_shape_is shape k None x e = absurd (cc e)
-in_shape_is shape k (Some v) x e = (v, mapped_is (shape v) x (bad_is k (option_map Some (shape v)) (Some x) e))
+optional_in : {A : Type 0} (shape : Data → Option A) (cause : Data → BadCause) (k : RecordingKey) (o : Option Data) (x : A) → any_in (λ v. option_map Some (shape v)) cause None k o ≡ Ok (Some x) → (v : Data) × (shape v ≡ Some x)
+optional_in shape cause k None x e = absurd (cc e)
+optional_in shape cause k (Some v) x e = (v, mapped_is (shape v) x (here_is k (cause v) (option_map Some (shape v)) (Some x) e))
+
+optional_is : {A : Type 0} (shape : Data → Option A) (cause : Data → BadCause) (k : RecordingKey) (d : Data) (x : A) → optional_at shape cause k d ≡ Ok (Some x) → (v : Data) × (shape v ≡ Some x)
+optional_is shape cause k d x e = optional_in shape cause k (value_at k d) x e
 
 passes_by : {A : Type 0} (b : Bool) (test : A → Bool) (y x : A) → test y ≡ b → (if b then Some y else None) ≡ Some x → (Some y ≡ Some x) × (test x ≡ true)
 passes_by true test y x is e = (e, ap test (sym (some_same y x e)) ∙ is)
@@ -64,35 +65,29 @@ passes_is : {A : Type 0} (test : A → Bool) (o : Option A) (x : A) → if_passe
 passes_is test None x e = absurd (cc e)
 passes_is test (Some y) x e = passes_by (test y) test y x refl e
 
-if_ok : {A : Type 0} (b : Bool) (k : RecordingKey) (y x : A) → ◌≡◌ {A = Read A} (if b then Ok y else Err k) (Ok x) → (b ≡ true) × (y ≡ x)
-if_ok true k y x e = (refl, ok_same y x e)
-if_ok false k y x e = absurd (cc e)
+if_ok : {A : Type 0} (b : Bool) (place : BadPlace) (y x : A) → ◌≡◌ {A = Read A} (if b then Ok y else Err place) (Ok x) → (b ≡ true) × (y ≡ x)
+if_ok true place y x e = (refl, ok_same y x e)
+if_ok false place y x e = absurd (cc e)
 
 some_count : (k : RecordingKey) (d : Data) (ds : Items) → some_items k d ≡ Ok ds → 1 ≤ items_len ds
 some_count k d ds e =
-    let b = bind_ok (required_at as_array k d) (λ es. if nat_le 1 (items_len es) then Ok es else Err k) ds e in
-    let p = if_ok (nat_le 1 (items_len b.0)) k b.0 ds b.2 in
-    subst (λ es. 1 ≤ items_len es) p.1 (leb-true 1 (items_len b.0) p.0)
-
-few_by : (k : RecordingKey) (r : Read Items) (ds : Items) → (r >>= (λ es. if nat_le (items_len es) 65536 then Ok es else Err k)) ≡ Ok ds → items_len ds ≤ 65536
-few_by k r ds e =
-    let b = bind_ok r (λ es. if nat_le (items_len es) 65536 then Ok es else Err k) ds e in
-    let p = if_ok (nat_le (items_len b.0) 65536) k b.0 ds b.2 in
-    subst (λ es. items_len es ≤ 65536) p.1 (leb-true (items_len b.0) 65536 p.0)
+    with_ok (items_at k d) _ ds e (λ es is e1.
+    let p = if_ok (nat_le 1 (items_len es)) _ es ds e1 in
+    subst (λ xs. 1 ≤ items_len xs) p.1 (leb-true 1 (items_len es) p.0))
 
 few_count : (k : RecordingKey) (d : Data) (ds : Items) → few_items k d ≡ Ok ds → items_len ds ≤ 65536
-few_count k d ds e = few_by k (required_at as_array k d) ds e
-
-few_in_count : (k : RecordingKey) (d : Data) (ds : Items) → few_in k d ≡ Ok ds → items_len ds ≤ 65536
-few_in_count k d ds e = few_by k (or_bad k (as_array d)) ds e
+few_count k d ds e =
+    with_ok (or_here k (other_than kind.Array d) (as_array d)) _ ds e (λ es is e1.
+    let p = if_ok (nat_le (items_len es) 65536) _ es ds e1 in
+    subst (λ xs. items_len xs ≤ 65536) p.1 (leb-true (items_len es) 65536 p.0))
 
 -- ---- elements
 
-each_count : {A S : Type 0} (one : List A → Data → S → Read (A × S)) (ds : Items) (found : List A) (s : S) (r : List A × S) → each one ds found s ≡ Ok r → length r.0 ≡ length found + items_len ds
-each_count one no_items found s r e = let same : length found ≡ length r.0 = ap (λ p. length p.0) (ok_same (found, s) r e) in omega (arith, same)
-each_count one (item d ds) found s r e =
-    let b = bind_ok (one found d s) (λ next. each one ds (found ++ next.0 ∷ []) next.1) r e in
-    let rest = each_count one ds (found ++ b.0.0 ∷ []) b.0.1 r b.2 in
+each_count : {A S : Type 0} (k : RecordingKey) (one : List A → Data → S → Read (A × S)) (ds : Items) (found : List A) (s : S) (r : List A × S) → each k one ds found s ≡ Ok r → length r.0 ≡ length found + items_len ds
+each_count k one no_items found s r e = let same : length found ≡ length r.0 = ap (λ p. length p.0) (ok_same (found, s) r e) in omega (arith, same)
+each_count k one (item d ds) found s r e =
+    let b = bind_ok (in_element k (length found) d (one found d s)) (λ next. each k one ds (found ++ next.0 ∷ []) next.1) r e in
+    let rest = each_count k one ds (found ++ b.0.0 ∷ []) b.0.1 r b.2 in
     let more = length-append found (b.0.0 ∷ []) in
     omega (arith, rest, more)
 
@@ -148,19 +143,19 @@ frame_added sources before found s t frame numbered more fits p =
       numbers = subst (λ n. Rises n (before ++ numbers_of (found ++ frame ∷ []))) (sym more) (subst (Rises (suc (length s.scopes))) list (rises_more (length s.scopes) (before ++ numbers_of found) p.numbers));
     }
 
-line_fits : (lines : ℕ) (d : Data) (line : ℕ) → required_at (line_of lines) key.Line d ≡ Ok line → (nat_le 1 line ≡ true) × (nat_le line 2147483647 ≡ true)
+line_fits : (lines : ℕ) (d : Data) (line : ℕ) → line_at lines d ≡ Ok line → (nat_le 1 line ≡ true) × (nat_le line 2147483647 ≡ true)
 line_fits lines d line e =
-    let v = required_is (line_of lines) key.Line d line e in
+    let v = due_is (line_of lines) _ key.Line d line e in
     let p = passes_is (λ n. nat_le 1 n && nat_le n lines) (number_of v.0) line v.1 in
     let q = passes_is (λ n. nat_le n 2147483647) (option_and_then as_u64 (as_number v.0)) line p.0 in
     ((and_parts (nat_le 1 line) (nat_le line lines) p.1).0, q.1)
 
 source_told : (by : Teller) (sources : List RecordedSource) (d : Data) (source : ℕ) → frame_source by sources d ≡ Ok (Some source) → (v : Data) × (source_place sources v ≡ Some source)
 source_told teller.Recording sources d source e =
-    let b = bind_ok (required_at (source_place sources) key.Source d) (λ n. Ok (Some n)) (Some source) e in
+    let b = bind_ok (source_at sources d) (λ n. Ok (Some n)) (Some source) e in
     let same : b.0 ≡ source = cc in
-    required_is (source_place sources) key.Source d source (b.1 ∙ ap Ok same)
-source_told teller.Host sources d source e = in_shape_is (source_place sources) key.Source (value_at key.Source d) source e
+    due_is (source_place sources) _ key.Source d source (b.1 ∙ ap Ok same)
+source_told teller.Host sources d source e = optional_is (source_place sources) _ key.Source d source e
 
 -- a line of a source that is there, or 0 without one
 place_fits : (by : Teller) (sources : List RecordedSource) (d : Data) (source : Option ℕ) (line : ℕ) → frame_source by sources d ≡ Ok source → frame_line sources source d ≡ Ok line → is_place (length sources) source line ≡ true
@@ -175,12 +170,12 @@ frame_holds : (by : Teller) (sources : List RecordedSource) (before : List ℕ) 
     → FramesHold (length sources) before (found, s) → FramesHold (length sources) before (found ++ next.0 ∷ [], next.1)
 unfolding frame_of
 frame_holds by sources before found s d next e p =
-    with_ok (required_at as_str key.Name d) _ next (then_ok (element key.Frames d) _ next e) (λ name named e1.
+    with_ok (text_at key.Name d) _ next e (λ name named e1.
     with_ok (frame_source by sources d) _ next e1 (λ source placed e2.
     with_ok (frame_line sources source d) _ next e2 (λ line lined e3.
-    with_ok (optional_or as_array no_items key.Scopes d) _ next e3 (λ given listed e4.
+    with_ok (items_if_any key.Scopes d) _ next e3 (λ given listed e4.
     with_ok (scopes_of given s.variables) _ next e4 (λ scopes scoped e5.
-    with_ok (optional_or more_of [] key.More d) _ next e5 (λ said told e6.
+    with_ok (more_at d) _ next e5 (λ said told e6.
     let frame : Frame = record { object = length s.scopes; name = name; source = source; line = line; more = said } in
     let after : Numbered = record { scopes = s.scopes ++ scopes.0 ∷ []; variables = scopes.1; untold = s.untold ++ untold_of given scopes.0 } in
     let more = length-append s.scopes (scopes.0 ∷ []) in
@@ -212,9 +207,9 @@ distinct_more (first ∷ found) thread e none =
     and_from (list_all (λ other. not (int_eq first.id other.id)) (found ++ thread ∷ [])) (are_distinct (found ++ thread ∷ []))
     (all_more (λ other. not (int_eq first.id other.id)) found thread p.0 (ap not q.0)) (distinct_more found thread p.1 q.1)
 
-new_id_is : (found : List RecordedThread) (d : Data) (id : ℤ) → required_at (new_id found) key.Id d ≡ Ok id → (is_int id ≡ true) × (is_some (place_of id found) ≡ false)
+new_id_is : (found : List RecordedThread) (d : Data) (id : ℤ) → new_id_at found d ≡ Ok id → (is_int id ≡ true) × (is_some (place_of id found) ≡ false)
 new_id_is found d id e =
-    let v = required_is (new_id found) key.Id d id e in
+    let v = due_is (new_id found) _ key.Id d id e in
     let p = passes_is (λ z. not (is_some (place_of z found))) (int_of v.0) id v.1 in
     let q = passes_is is_int (option_and_then as_i64 (as_number v.0)) id p.0 in
     (q.1, not_true (is_some (place_of id found)) p.1)
@@ -235,15 +230,15 @@ thread_holds : (by : Teller) (sources : List RecordedSource) (found : List Recor
     → ThreadsHold (length sources) (found, s) → ThreadsHold (length sources) (found ++ next.0 ∷ [], next.1)
 unfolding thread_of
 thread_holds by sources found s d next e p =
-    with_ok (required_at (new_id found) key.Id d) _ next (then_ok (element key.Threads d) _ next e) (λ id new e1.
-    with_ok (required_at as_str key.Name d) _ next e1 (λ name named e2.
+    with_ok (new_id_at found d) _ next e (λ id new e1.
+    with_ok (text_at key.Name d) _ next e1 (λ name named e2.
     with_ok (some_items key.Frames d) _ next e2 (λ given some e3.
-    with_ok (each (λ earlier. frame_of by sources) given [] s) _ next e3 (λ frames read e4.
+    with_ok (each key.Frames (λ earlier. frame_of by sources) given [] s) _ next e3 (λ frames read e4.
     let is_new = new_id_is found d id new in
-    let count = each_count (λ earlier. frame_of by sources) given [] s frames read in
+    let count = each_count key.Frames (λ earlier. frame_of by sources) given [] s frames read in
     let least = some_count key.Frames d given some in
     let first : FramesHold (length sources) (objects_of found) ([], s) = record { frames = refl; numbers = subst (Rises (length s.scopes)) (sym (append-nil (objects_of found))) p.numbers } in
-    let held = each_holds (λ earlier. frame_of by sources) (FramesHold (length sources) (objects_of found)) (frame_holds by sources (objects_of found)) given [] s frames read first in
+    let held = each_holds key.Frames (λ earlier. frame_of by sources) (FramesHold (length sources) (objects_of found)) (frame_holds by sources (objects_of found)) given [] s frames read first in
     subst (λ n. ThreadsHold (length sources) (found ++ n.0 ∷ [], n.1)) (ok_same (record { id = id; name = name; frames = frames.0 }, frames.1) next e4)
     (thread_added (length sources) found s id name frames is_new.0 is_new.1 (omega (arith, count, least)) held p)))))
 
@@ -258,9 +253,9 @@ place_within : (id : ℤ) (threads : List RecordedThread) (k : ℕ) → place_of
 place_within id [] k e = absurd (cc e)
 place_within id (thread ∷ threads) k e = place_by (int_eq thread.id id) (place_of id threads) k (length threads) e (λ j is. place_within id threads j is)
 
-thread_within : (threads : List RecordedThread) (d : Data) (k : ℕ) → required_at (thread_place threads) key.Thread d ≡ Ok k → k < length threads
+thread_within : (threads : List RecordedThread) (d : Data) (k : ℕ) → thread_place_at threads d ≡ Ok k → k < length threads
 thread_within threads d k e =
-    let v = required_is (thread_place threads) key.Thread d k e in
+    let v = due_is (thread_place threads) _ key.Thread d k e in
     within_by (int_of v.0) v.1
   where
     within_by : (o : Option ℤ) → option_and_then (λ id. place_of id threads) o ≡ Some k → k < length threads
@@ -269,10 +264,10 @@ thread_within threads d k e =
 
 -- ---- a stop of its own
 
-short_is : (most : ℕ) (k : RecordingKey) (d : Data) (text : Option (List ℕ)) → optional_at (short_text most) k d ≡ Ok text → is_short_text most text ≡ true
+short_is : (most : ℕ) (k : RecordingKey) (d : Data) (text : Option (List ℕ)) → short_text_at most k d ≡ Ok text → is_short_text most text ≡ true
 short_is most k d None e = refl
 short_is most k d (Some text) e =
-    let v = in_shape_is (short_text most) k (value_at k d) text e in
+    let v = optional_is (short_text most) _ k d text e in
     (passes_is (λ t. nat_le (length t) most) (as_str v.0) text v.1).1
 
 stop_short : (reason description text : Option (List ℕ)) → is_short_text 64 reason ≡ true → is_short_text 128 description ≡ true → is_short_text 128 text ≡ true → unwrap_or (option_map is_short_stop (stop_with reason description text)) true ≡ true
@@ -282,9 +277,9 @@ stop_short (Some reason) description text r d t = and_from (nat_le (length reaso
 stop_holds : (d : Data) (stop : Option OwnStop) → stop_of d ≡ Ok stop → unwrap_or (option_map is_short_stop stop) true ≡ true
 unfolding stop_of
 stop_holds d stop e =
-    with_ok (optional_at (short_text 64) key.Stop d) _ stop e (λ reason is_reason e1.
-    with_ok (optional_at (short_text 128) key.Description d) _ stop e1 (λ description is_description e2.
-    with_ok (optional_at (short_text 128) key.Text d) _ stop e2 (λ text is_text e3.
+    with_ok (short_text_at 64 key.Stop d) _ stop e (λ reason is_reason e1.
+    with_ok (short_text_at 128 key.Description d) _ stop e1 (λ description is_description e2.
+    with_ok (short_text_at 128 key.Text d) _ stop e2 (λ text is_text e3.
     subst (λ s. unwrap_or (option_map is_short_stop s) true ≡ true) (ok_same (stop_with reason description text) stop e3)
     (stop_short reason description text (short_is 64 key.Stop d reason is_reason) (short_is 128 key.Description d description is_description) (short_is 128 key.Text d text is_text)))))
 
@@ -295,14 +290,14 @@ record MomentHolds (sources : ℕ) (m : Moment) : Type 0 where
 moment_holds : (by : Teller) (sources : List RecordedSource) (d : Data) (s : Numbered) (next : Moment × Numbered) → moment_of by sources d s ≡ Ok next → MomentHolds (length sources) next.0
 unfolding moment_of
 moment_holds by sources d s next e =
-    with_ok (required_at as_array key.Threads d) _ next (then_ok (element key.Moments d) _ next e) (λ given array e1.
-    with_ok (each (thread_of by sources) given [] s) _ next e1 (λ threads read e2.
-    with_ok (required_at (thread_place threads.0) key.Thread d) _ next e2 (λ thread placed e3.
-    with_ok (optional_or as_str [] key.Output d) _ next e3 (λ output written e4.
-    with_ok (optional_or as_bool false key.Waits d) _ next e4 (λ waits held e5.
+    with_ok (items_at key.Threads d) _ next e (λ given array e1.
+    with_ok (each key.Threads (thread_of by sources) given [] s) _ next e1 (λ threads read e2.
+    with_ok (thread_place_at threads.0 d) _ next e2 (λ thread placed e3.
+    with_ok (text_if_any key.Output d) _ next e3 (λ output written e4.
+    with_ok (flag_at key.Waits d) _ next e4 (λ waits held e5.
     with_ok (stop_of d) _ next e5 (λ stop stopped e6.
     let first : ThreadsHold (length sources) ([], s) = record { threads = refl; distinct = refl; numbers = record { rises = refl; below = refl } } in
-    let all = each_holds (thread_of by sources) (ThreadsHold (length sources)) (thread_holds by sources) given [] s threads read first in
+    let all = each_holds key.Threads (thread_of by sources) (ThreadsHold (length sources)) (thread_holds by sources) given [] s threads read first in
     let fits : nat_lt thread (length threads.0) && (list_all (is_thread (length sources)) threads.0 && (are_distinct threads.0 && is_rising (objects_of threads.0))) ≡ true =
     and_from (nat_lt thread (length threads.0)) (list_all (is_thread (length sources)) threads.0 && (are_distinct threads.0 && is_rising (objects_of threads.0)))
     (lt-ltb thread (length threads.0) (thread_within threads.0 d thread placed))
@@ -318,10 +313,10 @@ is_counted source = nat_eq source.lines (line_count source.text)
 source_holds : (d : Data) (source : RecordedSource) → source_of d ≡ Ok source → is_counted source ≡ true
 unfolding source_of
 source_holds d source e =
-    with_ok (required_at as_str key.Name d) _ source (then_ok (element key.Sources d) _ source e) (λ name named e1.
-    with_ok (optional_at as_str key.Path d) _ source e1 (λ path at e2.
-    with_ok (required_at as_str key.Text d) _ source e2 (λ text is e3.
-    with_ok (optional_or as_bool false key.OnDisk d) _ source e3 (λ on_disk on e4.
+    with_ok (text_at key.Name d) _ source e (λ name named e1.
+    with_ok (optional_text_at key.Path d) _ source e1 (λ path at e2.
+    with_ok (text_at key.Text d) _ source e2 (λ text is e3.
+    with_ok (flag_at key.OnDisk d) _ source e3 (λ on_disk on e4.
     subst (λ x. is_counted x ≡ true) (ok_same (record { name = name; path = path; text = text; on_disk = on_disk; lines = line_count text }) source e4) (eq-eqb (line_count text) (line_count text) refl)))))
 
 sources_hold : (ds : Items) (found all : List RecordedSource) → each_source ds found ≡ Ok all → list_all is_counted found ≡ true → (list_all is_counted all ≡ true) × (length all ≡ length found + items_len ds)
@@ -330,7 +325,8 @@ sources_hold no_items found all e p =
     let count : length found ≡ length all = ap length same in
     (subst (λ xs. list_all is_counted xs ≡ true) same p, omega (arith, count))
 sources_hold (item d ds) found all e p =
-    with_ok (source_of d) _ all e (λ source is e1.
+    with_ok (in_element key.Sources (length found) d (source_of d)) _ all e (λ source in_place e1.
+    let is = element_ok key.Sources (length found) d (source_of d) source in_place in
     let rest = sources_hold ds (found ++ source ∷ []) all e1 (all_more is_counted found source p (source_holds d source is)) in
     let more = length-append found (source ∷ []) in
     let count : length all ≡ length found + suc (items_len ds) = omega (arith, rest.1, more) in
@@ -348,11 +344,11 @@ moments_more sources found s t m one p = record {
 
 -- moments that are some, read over sources that hold
 recording_holds : (exit : ℤ) (sources : List RecordedSource) (given : Items) (moments : List Moment × Numbered)
-    → length sources ≤ 65536 → list_all is_counted sources ≡ true → 1 ≤ items_len given → each (λ earlier. moment_of teller.Recording sources) given [] none_numbered ≡ Ok moments
+    → length sources ≤ 65536 → list_all is_counted sources ≡ true → 1 ≤ items_len given → each key.Moments (λ earlier. moment_of teller.Recording sources) given [] none_numbered ≡ Ok moments
     → IsRecording (record { exit = exit; sources = sources; moments = moments.0; scopes = moments.1.scopes; variables = moments.1.variables; untold = moments.1.untold })
 recording_holds exit sources given moments most counted least read =
-    let count = each_count (λ earlier. moment_of teller.Recording sources) given [] none_numbered moments read in
-    let all = each_holds (λ earlier. moment_of teller.Recording sources) (MomentsHold (length sources)) (λ found s x next is p. moments_more (length sources) found s next.1 next.0 (moment_holds teller.Recording sources x s next is) p) given [] none_numbered moments read (record { moments = refl; stops = refl }) in
+    let count = each_count key.Moments (λ earlier. moment_of teller.Recording sources) given [] none_numbered moments read in
+    let all = each_holds key.Moments (λ earlier. moment_of teller.Recording sources) (MomentsHold (length sources)) (λ found s x next is p. moments_more (length sources) found s next.1 next.0 (moment_holds teller.Recording sources x s next is) p) given [] none_numbered moments read (record { moments = refl; stops = refl }) in
     record {
       sources = most;
       lines = counted;
@@ -363,47 +359,44 @@ recording_holds exit sources given moments most counted least read =
       spans = spans_read teller.Recording sources given moments read;
     }
 
+-- sources that were read are few
+rows_hold : (d : Data) (sources : List RecordedSource) → source_rows d ≡ Ok sources → (length sources ≤ 65536) × (list_all is_counted sources ≡ true)
+rows_hold d sources e =
+    with_ok (few_items key.Sources d) _ sources e (λ given few told.
+    let counted = sources_hold given [] sources told refl in
+    let most = few_count key.Sources d given few in
+    (omega (arith, counted.1, most), counted.0))
+
+pub rows_are_few : (d : Data) (given : Items) (sources : List RecordedSource) → few_items key.Sources d ≡ Ok given → each_source given [] ≡ Ok sources → length sources ≤ 65536
+rows_are_few d given sources few told =
+    let counted = sources_hold given [] sources told refl in
+    let most = few_count key.Sources d given few in
+    omega (arith, counted.1, most)
+
 pub is_read : (d : Data) (r : Recording) → recording_of d ≡ Ok r → IsRecording r
 unfolding recording_of moments_of
 is_read d r e =
-    with_ok (required_at exit_of key.Exit d) _ r e (λ exit exited e1.
-    with_ok (few_items key.Sources d) _ r e1 (λ texts few e2.
-    with_ok (each_source texts []) _ r e2 (λ sources told e3.
+    with_ok (exit_at d) _ r e (λ exit exited e1.
+    with_ok (present_at key.Sources d) _ r e1 (λ found there e2.
+    with_ok (source_rows found) _ r e2 (λ sources told e3.
     with_ok (some_items key.Moments d) _ r e3 (λ given some e4.
     with_ok (moments_of sources given none_numbered) _ r e4 (λ moments read e5.
-    let counted = sources_hold texts [] sources told refl in
-    let most = few_count key.Sources d texts few in
+    let held = rows_hold found sources told in
     subst IsRecording (ok_same (record { exit = exit; sources = sources; moments = moments.0; scopes = moments.1.scopes; variables = moments.1.variables; untold = moments.1.untold }) r e5)
-    (recording_holds exit sources given moments (omega (arith, counted.1, most)) counted.0 (some_count key.Moments d given some) read))))))
+    (recording_holds exit sources given moments held.0 held.1 (some_count key.Moments d given some) read))))))
 
 -- one moment that was read holds by itself
-pub alone_holds : (sources : List RecordedSource) (d : Data) (m : Moment × Numbered) → moment_of teller.Host sources d none_numbered ≡ Ok m → IsAlone (numbered_alone (length sources) m)
-alone_holds sources d m read =
+pub alone_holds : (sources : List RecordedSource) (d : Data) (m : Moment × Numbered) → is_object d ≡ true → moment_of teller.Host sources d none_numbered ≡ Ok m → IsAlone (numbered_alone (length sources) m)
+alone_holds sources d m object read =
     let moments : List Moment × Numbered = (m.0 ∷ [], m.1) in
-    let all : each (λ earlier. moment_of teller.Host sources) (item d no_items) [] none_numbered ≡ Ok moments =
-    ap (λ (x : Read (Moment × Numbered)). x >>= (λ next. each (λ earlier. moment_of teller.Host sources) no_items ([] ++ next.0 ∷ []) next.1)) read in
+    let inside : in_element key.Moments 0 d (moment_of teller.Host sources d none_numbered) ≡ Ok m = ap (in_element key.Moments 0 d) read ∙ rw object refl in
+    let all : each key.Moments (λ earlier. moment_of teller.Host sources) (item d no_items) [] none_numbered ≡ Ok moments =
+    ap (λ (x : Read (Moment × Numbered)). x >>= (λ next. each key.Moments (λ earlier. moment_of teller.Host sources) no_items ([] ++ next.0 ∷ []) next.1)) inside in
     record {
       moment = (moment_holds teller.Host sources d none_numbered m read).moment;
       holders = λ n. holders_once teller.Host sources (item d no_items) moments all n;
       spans = spans_read teller.Host sources (item d no_items) moments all 0 m.0 refl;
     }
-
--- sources that were read are few
-pub items_are_few : (k : RecordingKey) (d : Data) (given : Items) (sources : List RecordedSource) → few_items k d ≡ Ok given → each_source given [] ≡ Ok sources → length sources ≤ 65536
-items_are_few k d given sources few told =
-    let counted = sources_hold given [] sources told refl in
-    let most = few_count k d given few in
-    omega (arith, counted.1, most)
-
-pub sources_are_few : (k : RecordingKey) (d : Data) (given : Items) (sources : List RecordedSource) → few_in k d ≡ Ok given → each_source given [] ≡ Ok sources → length sources ≤ 65536
-sources_are_few k d given sources few told =
-    let counted = sources_hold given [] sources told refl in
-    let most = few_in_count k d given few in
-    omega (arith, counted.1, most)
-
-pub read_holds : (d : Data) (result : Result Recording RecordingFault) → Gives result (recording_of d) → IfOk result (λ r. IsRecording r)
-read_holds d (Ok r) gives = is_read d r gives
-read_holds d (Err fault) gives = tt
 
 or_ok : (read : Read Recording) (r : Recording) → or_fault read ≡ Ok r → read ≡ Ok r
 or_ok (Ok x) r e = let same : x ≡ r = cc in ap Ok same
@@ -422,12 +415,12 @@ verdict_holds (Some d) r e = is_read d r (if_object (is_object d) (recording_of 
 own_sources : (d : Data) (r : Recording) → recording_of d ≡ Ok r → sources_at d ≡ Ok r.sources
 unfolding recording_of sources_at
 own_sources d r e =
-    with_ok (required_at exit_of key.Exit d) _ r e (λ exit exited e1.
-    with_ok (few_items key.Sources d) _ r e1 (λ texts few e2.
-    with_ok (each_source texts []) _ r e2 (λ sources told e3.
+    with_ok (exit_at d) _ r e (λ exit exited e1.
+    with_ok (present_at key.Sources d) _ r e1 (λ found there e2.
+    with_ok (source_rows found) _ r e2 (λ sources told e3.
     with_ok (some_items key.Moments d) _ r e3 (λ given some e4.
     with_ok (moments_of sources given none_numbered) _ r e4 (λ moments read e5.
-    ap (λ (x : Read Items). x >>= (λ given. each_source given [])) few ∙ told
+    ap (λ (x : Read Data). x >>= source_rows) there ∙ told
     ∙ ap (λ (x : Recording). Ok x.sources) (ok_same (record { exit = exit; sources = sources; moments = moments.0; scopes = moments.1.scopes; variables = moments.1.variables; untold = moments.1.untold }) r e5))))))
 
 of_object : (b : Bool) (read : Read Recording) (sources : Read (List RecordedSource)) (r : Recording) → (read ≡ Ok r → sources ≡ Ok r.sources) → (if b then or_fault read else Err NotObject) ≡ Ok r → (if b then or_fault sources else Err NotObject) ≡ Ok r.sources

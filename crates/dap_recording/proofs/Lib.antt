@@ -1,13 +1,15 @@
 pub mod Depths
+pub mod Elements
 pub mod Children
 pub mod Untold
-pub mod Elements
 pub mod ReadSteps
 pub mod HoldersRead
 pub mod SpansRead
 pub mod IsRead
 pub mod AloneLemmas
+pub mod WhyRefused
 pub mod ReadingExamples
+pub mod RefusalsExamples
 pub mod ThreeMoments
 pub mod RecordingExamples
 pub mod ShownExamples

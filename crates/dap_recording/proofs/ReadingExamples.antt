@@ -4,7 +4,8 @@ use Rattle.serde_json.specs.Data.{Data, boolean, null, number, unsigned, negativ
 use lib.Ieee.{nan}
 use Rattle.dap_recording.proofs.IsRead.{is_read}
 use Rattle.dap_recording.proofs.ThreeMoments.{three_moments}
-use Rattle.dap_recording.specs.Reading.{Read, Numbered, none_numbered, recording_of, verdict_of, file_sources, sources_at, variables_of, source_of, moments_of, moment_of, thread_of, frame_of, scopes_of, scope_of, stop_of}
+use Rattle.dap_recording.specs.Places.{Read}
+use Rattle.dap_recording.specs.Reading.{keyed, Numbered, none_numbered, recording_of, verdict_of, file_sources, sources_at, variables_of, source_of, moments_of, moment_of, thread_of, frame_of, scopes_of, scope_of, stop_of}
 use Rattle.dap_recording.specs.Recording.{IsRecording}
 use Rattle.dap_recording.specs.declared.reading.RecordingFault.TheVariants.{NotJson, NotObject, BadKey}
 use Rattle.dap_recording.specs.declared.reading.RecordingKey.TheVariants as key
@@ -93,11 +94,11 @@ unfolding recording_of source_of moments_of moment_of thread_of frame_of scopes_
 no_moments = refl
 
 -- the least and the greatest exit are read, so the next key is bad
-exits : (recording_of (with_parts (whole 2147483647) null none) ≡ Err key.Sources) × (recording_of (with_parts (number (negative (negsuc 2147483647))) null none) ≡ Err key.Sources)
+exits : (keyed (recording_of (with_parts (whole 2147483647) null none)) ≡ Err key.Sources) × (keyed (recording_of (with_parts (number (negative (negsuc 2147483647))) null none)) ≡ Err key.Sources)
 unfolding recording_of source_of moments_of moment_of thread_of frame_of scopes_of scope_of stop_of
 exits = (refl, refl)
 
-no_exits : (recording_of (with_parts (whole 2147483648) none none) ≡ Err key.Exit) × (recording_of (with_parts (number (negative (negsuc 2147483648))) none none) ≡ Err key.Exit) × (recording_of (with_parts null none none) ≡ Err key.Exit) × (recording_of (object no_members) ≡ Err key.Exit)
+no_exits : (keyed (recording_of (with_parts (whole 2147483648) none none)) ≡ Err key.Exit) × (keyed (recording_of (with_parts (number (negative (negsuc 2147483648))) none none)) ≡ Err key.Exit) × (keyed (recording_of (with_parts null none none)) ≡ Err key.Exit) × (keyed (recording_of (object no_members)) ≡ Err key.Exit)
 unfolding recording_of source_of moments_of moment_of thread_of frame_of scopes_of scope_of stop_of
 no_exits = (refl, refl, refl, refl)
 
@@ -116,15 +117,15 @@ unfolding recording_of source_of moments_of moment_of thread_of frame_of scopes_
 file_on_disk = refl
 
 -- it is read after the text, and null is bad there
-on_disk_comes_last : (source_of (source_with (put (codes "onDisk") null (put (codes "text") (text (codes "x")) no_members))) ≡ Err key.OnDisk) × (source_of (source_with (put (codes "onDisk") null no_members)) ≡ Err key.Text)
+on_disk_comes_last : (keyed (source_of (source_with (put (codes "onDisk") null (put (codes "text") (text (codes "x")) no_members)))) ≡ Err key.OnDisk) × (keyed (source_of (source_with (put (codes "onDisk") null no_members))) ≡ Err key.Text)
 unfolding recording_of source_of moments_of moment_of thread_of frame_of scopes_of scope_of stop_of
 on_disk_comes_last = (refl, refl)
 
-null_is_no_path : source_of (source_with (put (codes "path") null (put (codes "text") (text (codes "x")) no_members))) ≡ Err key.Path
+null_is_no_path : keyed (source_of (source_with (put (codes "path") null (put (codes "text") (text (codes "x")) no_members)))) ≡ Err key.Path
 unfolding recording_of source_of moments_of moment_of thread_of frame_of scopes_of scope_of stop_of
 null_is_no_path = refl
 
-source_is_an_object : recording_of (with_parts (whole 0) (one null) none) ≡ Err key.Sources
+source_is_an_object : keyed (recording_of (with_parts (whole 0) (one null) none)) ≡ Err key.Sources
 unfolding recording_of source_of moments_of moment_of thread_of frame_of scopes_of scope_of stop_of
 source_is_an_object = refl
 
@@ -137,11 +138,11 @@ no_children_no_number = refl
 children_before_their_parent : variables_of (one variable_p) ([] ∷ []) ≡ Ok (record { name = codes "p"; value = codes "P"; holder = Some 1; more = [] } ∷ [], [] ∷ (record { name = codes "a"; value = codes "7"; holder = None; more = [] } ∷ []) ∷ [])
 children_before_their_parent = refl
 
-null_is_no_list : variables_of (one (object (put (codes "name") (text (codes "v")) (put (codes "value") (text (codes "1")) (put (codes "variables") null no_members))))) [] ≡ Err key.Variables
+null_is_no_list : keyed (variables_of (one (object (put (codes "name") (text (codes "v")) (put (codes "value") (text (codes "1")) (put (codes "variables") null no_members))))) []) ≡ Err key.Variables
 null_is_no_list = refl
 
 -- a variable's children are read before the next variable
-first_child_first : variables_of (array (item (object (put (codes "name") (text (codes "v")) (put (codes "value") (text (codes "1")) (put (codes "variables") (one (object no_members)) no_members)))) (item null no_items))) [] ≡ Err key.Name
+first_child_first : keyed (variables_of (array (item (object (put (codes "name") (text (codes "v")) (put (codes "value") (text (codes "1")) (put (codes "variables") (one (object no_members)) no_members)))) (item null no_items))) []) ≡ Err key.Name
 first_child_first = refl
 
 -- ---- members beside
@@ -154,7 +155,7 @@ members_beside : (more : List Member) → more ≡ record { key = codes "name"; 
     → variables_of (one (variable_more (object (put (codes "type") (text (codes "int")) (put (codes "name") null no_members))))) [] ≡ Ok (record { name = codes "v"; value = codes "1"; holder = None; more = more } ∷ [], [])
 members_beside more same = ap (λ ms. Ok (record { name = codes "v"; value = codes "1"; holder = None; more = ms } ∷ [], [])) (sym same)
 
-null_is_no_members : (variables_of (one (variable_more null)) [] ≡ Err key.More) × (variables_of (one (variable_more none)) [] ≡ Err key.More) × (variables_of (one (variable_more (object (put (codes "x") (number (float nan)) no_members)))) [] ≡ Err key.More)
+null_is_no_members : (keyed (variables_of (one (variable_more null)) []) ≡ Err key.More) × (keyed (variables_of (one (variable_more none)) []) ≡ Err key.More) × (keyed (variables_of (one (variable_more (object (put (codes "x") (number (float nan)) no_members)))) []) ≡ Err key.More)
 null_is_no_members = (refl, refl, refl)
 
 -- ---- moments
@@ -168,40 +169,24 @@ of_threads threads = recorded (item (object (moment_members threads)) no_items)
 abbrev of_frame : Members → Data
 of_frame ms = of_threads (item (thread 1 (item (object ms) no_items)) no_items)
 
-no_threads : recording_of (of_threads no_items) ≡ Err key.Thread
+no_threads : keyed (recording_of (of_threads no_items)) ≡ Err key.Thread
 unfolding recording_of source_of moments_of moment_of thread_of frame_of scopes_of scope_of stop_of
 no_threads = refl
 
-thread_of_another_id : recording_of (of_threads (item (thread 2 (item (frame (codes "f") 1) no_items)) no_items)) ≡ Err key.Thread
-unfolding recording_of source_of moments_of moment_of thread_of frame_of scopes_of scope_of stop_of
-thread_of_another_id = refl
-
-same_id_again : recording_of (of_threads (item (thread 1 (item (frame (codes "f") 1) no_items)) (item (thread 1 no_items) no_items))) ≡ Err key.Id
-unfolding recording_of source_of moments_of moment_of thread_of frame_of scopes_of scope_of stop_of
-same_id_again = refl
-
-no_frames : recording_of (of_threads (item (thread 1 no_items) no_items)) ≡ Err key.Frames
+no_frames : keyed (recording_of (of_threads (item (thread 1 no_items) no_items))) ≡ Err key.Frames
 unfolding recording_of source_of moments_of moment_of thread_of frame_of scopes_of scope_of stop_of
 no_frames = refl
 
-lines_of_the_source : (recording_of (of_frame (frame_members (codes "f") 0)) ≡ Err key.Line) × (recording_of (of_frame (frame_members (codes "f") 4)) ≡ Err key.Line)
-unfolding recording_of source_of moments_of moment_of thread_of frame_of scopes_of scope_of stop_of
-lines_of_the_source = (refl, refl)
-
-one_source : recording_of (of_frame (put (codes "source") (whole 1) (frame_members (codes "f") 1))) ≡ Err key.Source
-unfolding recording_of source_of moments_of moment_of thread_of frame_of scopes_of scope_of stop_of
-one_source = refl
-
-null_is_no_scopes : recording_of (of_frame (put (codes "scopes") null (frame_members (codes "f") 1))) ≡ Err key.Scopes
+null_is_no_scopes : keyed (recording_of (of_frame (put (codes "scopes") null (frame_members (codes "f") 1)))) ≡ Err key.Scopes
 unfolding recording_of source_of moments_of moment_of thread_of frame_of scopes_of scope_of stop_of
 null_is_no_scopes = refl
 
-null_is_no_output : recording_of (recorded (item (object (put (codes "output") null (moment_members (item (thread 1 (item (frame (codes "f") 1) no_items)) no_items)))) no_items)) ≡ Err key.Output
+null_is_no_output : keyed (recording_of (recorded (item (object (put (codes "output") null (moment_members (item (thread 1 (item (frame (codes "f") 1) no_items)) no_items)))) no_items))) ≡ Err key.Output
 unfolding recording_of source_of moments_of moment_of thread_of frame_of scopes_of scope_of stop_of
 null_is_no_output = refl
 
 -- all keys of a moment are tested before the next moment
-first_moment_first : recording_of (recorded (item (object (put (codes "waits") null (moment_members (item (thread 1 (item (frame (codes "f") 1) no_items)) no_items)))) (item null no_items))) ≡ Err key.Waits
+first_moment_first : keyed (recording_of (recorded (item (object (put (codes "waits") null (moment_members (item (thread 1 (item (frame (codes "f") 1) no_items)) no_items)))) (item null no_items)))) ≡ Err key.Waits
 unfolding recording_of source_of moments_of moment_of thread_of frame_of scopes_of scope_of stop_of
 first_moment_first = refl
 
@@ -216,16 +201,16 @@ one_thread = item (thread 1 (item (frame (codes "f") 1) no_items)) no_items
 abbrev with_stop : Data → Data → Data → Data
 with_stop reason description its_text = recorded (item (object (put (codes "stop") reason (put (codes "description") description (put (codes "text") its_text (moment_members one_thread))))) no_items)
 
-stops_that_are_too_long : (recording_of (with_stop (words 65) (words 0) (words 0)) ≡ Err key.Stop) × (recording_of (with_stop (words 0) (words 129) (words 0)) ≡ Err key.Description) × (recording_of (with_stop (words 0) (words 0) (words 129)) ≡ Err key.Text)
+stops_that_are_too_long : (keyed (recording_of (with_stop (words 65) (words 0) (words 0))) ≡ Err key.Stop) × (keyed (recording_of (with_stop (words 0) (words 129) (words 0))) ≡ Err key.Description) × (keyed (recording_of (with_stop (words 0) (words 0) (words 129))) ≡ Err key.Text)
 unfolding recording_of source_of moments_of moment_of thread_of frame_of scopes_of scope_of stop_of
 stops_that_are_too_long = (refl, refl, refl)
 
-null_is_no_stop : (recording_of (with_stop null null null) ≡ Err key.Stop) × (recording_of (with_stop (words 1) null null) ≡ Err key.Description) × (recording_of (with_stop (words 1) (words 1) null) ≡ Err key.Text)
+null_is_no_stop : (keyed (recording_of (with_stop null null null)) ≡ Err key.Stop) × (keyed (recording_of (with_stop (words 1) null null)) ≡ Err key.Description) × (keyed (recording_of (with_stop (words 1) (words 1) null)) ≡ Err key.Text)
 unfolding recording_of source_of moments_of moment_of thread_of frame_of scopes_of scope_of stop_of
 null_is_no_stop = (refl, refl, refl)
 
 -- `waits` is tested first
-stop_comes_after_waits : recording_of (recorded (item (object (put (codes "stop") null (put (codes "waits") null (moment_members one_thread)))) no_items)) ≡ Err key.Waits
+stop_comes_after_waits : keyed (recording_of (recorded (item (object (put (codes "stop") null (put (codes "waits") null (moment_members one_thread)))) no_items))) ≡ Err key.Waits
 unfolding recording_of source_of moments_of moment_of thread_of frame_of scopes_of scope_of stop_of
 stop_comes_after_waits = refl
 
@@ -238,7 +223,7 @@ unfolding recording_of source_of moments_of moment_of thread_of frame_of scopes_
 longest_stop = refl
 
 -- without a reason they are tested, and do not count
-described_alone : (stop_of (object (put (codes "description") (words 128) (put (codes "text") (words 128) no_members))) ≡ Ok None) × (stop_of (object (put (codes "description") (words 129) no_members)) ≡ Err key.Description) × (stop_of (object (put (codes "text") (words 129) no_members)) ≡ Err key.Text) × (stop_of (object no_members) ≡ Ok None)
+described_alone : (stop_of (object (put (codes "description") (words 128) (put (codes "text") (words 128) no_members))) ≡ Ok None) × (keyed (stop_of (object (put (codes "description") (words 129) no_members))) ≡ Err key.Description) × (keyed (stop_of (object (put (codes "text") (words 129) no_members))) ≡ Err key.Text) × (stop_of (object no_members) ≡ Ok None)
 unfolding recording_of source_of moments_of moment_of thread_of frame_of scopes_of scope_of stop_of
 described_alone = (refl, refl, refl, refl)
 
@@ -258,12 +243,12 @@ frame_without_a_source : (told_by teller.Host no_members ≡ Ok (first None 0 []
 unfolding recording_of source_of moments_of moment_of thread_of frame_of scopes_of scope_of stop_of
 frame_without_a_source = (refl, refl, refl)
 
-recorded_frame_without_a_source : (told_by teller.Recording no_members ≡ Err key.Source) × (told_by teller.Recording (put (codes "line") (whole 1) no_members) ≡ Err key.Source)
+recorded_frame_without_a_source : (keyed (told_by teller.Recording no_members) ≡ Err key.Source) × (keyed (told_by teller.Recording (put (codes "line") (whole 1) no_members)) ≡ Err key.Source)
 unfolding recording_of source_of moments_of moment_of thread_of frame_of scopes_of scope_of stop_of
 recorded_frame_without_a_source = (refl, refl)
 
 -- a source that is told is one of those there are, and has the line
-frame_with_a_source : (told_by teller.Host (put (codes "source") null no_members) ≡ Err key.Source) × (told_by teller.Host (put (codes "source") (whole 1) no_members) ≡ Err key.Source) × (told_by teller.Host (put (codes "source") (whole 0) no_members) ≡ Err key.Line) × (told_by teller.Host (put (codes "source") (whole 0) (put (codes "line") (whole 2) no_members)) ≡ Err key.Line) × (told_by teller.Host (put (codes "source") (whole 0) (put (codes "line") (whole 1) no_members)) ≡ Ok (first (Some 0) 1 []))
+frame_with_a_source : (keyed (told_by teller.Host (put (codes "source") null no_members)) ≡ Err key.Source) × (keyed (told_by teller.Host (put (codes "source") (whole 1) no_members)) ≡ Err key.Source) × (keyed (told_by teller.Host (put (codes "source") (whole 0) no_members)) ≡ Err key.Line) × (keyed (told_by teller.Host (put (codes "source") (whole 0) (put (codes "line") (whole 2) no_members))) ≡ Err key.Line) × (told_by teller.Host (put (codes "source") (whole 0) (put (codes "line") (whole 1) no_members)) ≡ Ok (first (Some 0) 1 []))
 unfolding recording_of source_of moments_of moment_of thread_of frame_of scopes_of scope_of stop_of
 frame_with_a_source = (refl, refl, refl, refl, refl)
 

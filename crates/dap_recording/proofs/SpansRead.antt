@@ -1,14 +1,13 @@
 -- What is read of a recording has, in each moment, numbers of that moment alone.
 -- Reading only adds to the scopes and the variables, and what is added while a moment is read has numbers that are taken meanwhile.
-use Rattle.std.proofs.Common.{◌≡◌, ◌⊎◌, inl, inr, ℕ, zero, suc, ◌≤◌, ◌<◌, Bool, false, List, [], ◌∷◌, ◌++◌, length, Option, Some, None, Ok, length-append, refl, sym, ap, subst, ◌∙◌, arith}
+use Rattle.std.proofs.Common.{◌≡◌, ◌⊎◌, inl, inr, ℕ, zero, suc, ◌≤◌, ◌<◌, Bool, List, [], ◌∷◌, ◌++◌, length, Option, Some, None, Ok, length-append, refl, sym, ap, subst, ◌∙◌, arith}
 use Rattle.std.proofs.lemmas.Option.{slice_get_within}
 use Rattle.std.specs.List.{slice_get}
 use Rattle.std.specs.Ordering.{nat_cmp}
 use Rattle.std.specs.Cmp.Lexicographic.{slice_cmp}
 use Rattle.serde_json.specs.Data.{Data, array, object, Items, no_items, item, Members, no_members, member}
-use Rattle.serde_json.specs.Find.{as_str, as_bool, as_array}
-use Rattle.dap_json.specs.More.{more_of}
-use Rattle.dap_recording.specs.Reading.{required_at, optional_or, element, value_at, some_items, frame_source, frame_line, untold_of, stop_of, none_numbered, new_id, thread_place, Holders, holder_of, with_holder, variable_of, variables_of, each_variable, variables_within, read_variables, Numbered, each, scope_of, scopes_of, frame_of, thread_of, moment_of}
+use Rattle.dap_recording.specs.Places.{value_at, in_element}
+use Rattle.dap_recording.specs.Reading.{text_at, text_if_any, flag_at, items_at, items_if_any, more_at, new_id_at, thread_place_at, some_items, frame_source, frame_line, untold_of, stop_of, none_numbered, Holders, holder_of, with_holder, variable_of, variables_of, each_variable, variables_within, read_variables, Numbered, each, scope_of, scopes_of, frame_of, thread_of, moment_of}
 use Rattle.dap_recording.specs.Recording.{IsWithin, HasOwnNumbers}
 use Rattle.dap_recording.specs.RecordingKey.{name_of}
 use Rattle.dap_debuggee.specs.declared.answers.Frame.{Frame}
@@ -21,7 +20,7 @@ use Rattle.dap_recording.specs.declared.recording.RecordedThread.{RecordedThread
 use Rattle.dap_recording.specs.declared.recording.OwnStop.{OwnStop}
 use Rattle.dap_recording.specs.declared.recording.Moment.{Moment}
 use Rattle.dap_recording.proofs.HoldersRead.{by_order}
-use Rattle.dap_recording.proofs.ReadSteps.{some_same, ok_same, then_ok, with_ok, each_holds}
+use Rattle.dap_recording.proofs.ReadSteps.{some_same, ok_same, with_ok, element_ok, each_holds}
 
 -- ---- lists that grow
 
@@ -171,10 +170,10 @@ found_holder base before (x ∷ xs) after p =
 mutual
   variable_found : (base : Holders) (d : Data) (holders : Holders) (r : Variable × Holders) → variable_of d holders ≡ Ok r → Added base holders → FoundOne base holders r.0.holder r.1
   variable_found base (object ms) holders r e a =
-      with_ok (required_at as_str key.Name (object ms)) _ r e (λ name named e1.
-      with_ok (required_at as_str key.Value (object ms)) _ r e1 (λ value valued e2.
+      with_ok (text_at key.Name (object ms)) _ r e (λ name named e1.
+      with_ok (text_at key.Value (object ms)) _ r e1 (λ value valued e2.
       with_ok (variables_within ms holders) _ r e2 (λ inner is e3.
-      with_ok (optional_or more_of [] key.More (object ms)) _ r e3 (λ said told e4.
+      with_ok (more_at (object ms)) _ r e3 (λ said told e4.
       subst (λ (x : Variable × Holders). FoundOne base holders x.0.holder x.1) (ok_same (record { name = name; value = value; holder = holder_of inner.0 inner.1; more = said }, with_holder inner.0 inner.1) r e4)
       (found_holder base holders inner.0 inner.1 (within_found base ms holders inner is a))))))
   variable_found base d holders r e a = absurd (cc e)
@@ -186,7 +185,8 @@ mutual
   each_found : (base : Holders) (ds : Items) (found : List Variable) (holders : Holders) (r : List Variable × Holders) → each_variable ds found holders ≡ Ok r → Found base holders (found, holders) → Found base holders r
   each_found base no_items found holders r e p = subst (Found base holders) (ok_same (found, holders) r e) p
   each_found base (item d ds) found holders r e p =
-      with_ok (variable_of d holders) _ r e (λ one is e1.
+      with_ok (in_element key.Variables (length found) d (variable_of d holders)) _ r e (λ one in_place e1.
+      let is = element_ok key.Variables (length found) d (variable_of d holders) one in_place in
       let first = variable_found base d holders one is p.added in
       let so_far : Found base one.1 (found ++ one.0 ∷ [], one.1) = record {
         added = first.added;
@@ -218,9 +218,9 @@ record ScopesRead (base before : Holders) (r : List Scope × Holders) : Type 0 w
 scope_read : (base before : Holders) (found : List Scope) (holders : Holders) (d : Data) (next : Scope × Holders) → scope_of d holders ≡ Ok next → ScopesRead base before (found, holders) → ScopesRead base before (found ++ next.0 ∷ [], next.1)
 unfolding scope_of
 scope_read base before found holders d next e p =
-    with_ok (required_at as_str key.Name d) _ next (then_ok (element key.Scopes d) _ next e) (λ name named e1.
+    with_ok (text_at key.Name d) _ next e (λ name named e1.
     with_ok (read_variables (value_at key.Variables d) holders) _ next e1 (λ inner is e2.
-    with_ok (optional_or more_of [] key.More d) _ next e2 (λ said told e3.
+    with_ok (more_at d) _ next e2 (λ said told e3.
     let one = listed_found base (value_at key.Variables d) holders inner is p.read.added in
     let count = length-append inner.1 (inner.0 ∷ []) in
     let more : length holders ≤ length (inner.1 ++ inner.0 ∷ []) = omega (arith, count, one.longer) in
@@ -238,7 +238,7 @@ scopes_read : (base : Holders) (given : Items) (holders : Holders) (r : List Sco
 unfolding scopes_of
 scopes_read base given holders r e a =
     let first : ScopesRead base holders ([], holders) = record { read = record { added = a; found = at_none (λ i s. Between (length base) (length holders) s.holder) }; longer = omega arith } in
-    each_holds (λ earlier. scope_of) (ScopesRead base holders) (λ found s x next is_next p. scope_read base holders found s x next is_next p) given [] holders r e first
+    each_holds key.Scopes (λ earlier. scope_of) (ScopesRead base holders) (λ found s x next is_next p. scope_read base holders found s x next is_next p) given [] holders r e first
 
 -- ---- frames and threads
 
@@ -282,12 +282,12 @@ frame_added base before found s frame scopes untold numbered read p =
 frame_read : (base before : Numbered) (by : Teller) (sources : List RecordedSource) (found : List Frame) (s : Numbered) (d : Data) (next : Frame × Numbered) → frame_of by sources d s ≡ Ok next → FramesRead base before (found, s) → FramesRead base before (found ++ next.0 ∷ [], next.1)
 unfolding frame_of
 frame_read base before by sources found s d next e p =
-    with_ok (required_at as_str key.Name d) _ next (then_ok (element key.Frames d) _ next e) (λ name named e1.
+    with_ok (text_at key.Name d) _ next e (λ name named e1.
     with_ok (frame_source by sources d) _ next e1 (λ source placed e2.
     with_ok (frame_line sources source d) _ next e2 (λ line lined e3.
-    with_ok (optional_or as_array no_items key.Scopes d) _ next e3 (λ given listed e4.
+    with_ok (items_if_any key.Scopes d) _ next e3 (λ given listed e4.
     with_ok (scopes_of given s.variables) _ next e4 (λ scopes scoped e5.
-    with_ok (optional_or more_of [] key.More d) _ next e5 (λ said told e6.
+    with_ok (more_at d) _ next e5 (λ said told e6.
     let frame : Frame = record { object = length s.scopes; name = name; source = source; line = line; more = said } in
     let after : Numbered = record { scopes = s.scopes ++ scopes.0 ∷ []; variables = scopes.1; untold = s.untold ++ untold_of given scopes.0 } in
     subst (λ (x : Frame × Numbered). FramesRead base before (found ++ x.0 ∷ [], x.1)) (ok_same (frame, after) next e6)
@@ -300,12 +300,12 @@ record ThreadsRead (base : Numbered) (r : List RecordedThread × Numbered) : Typ
 thread_read : (base : Numbered) (by : Teller) (sources : List RecordedSource) (found : List RecordedThread) (s : Numbered) (d : Data) (next : RecordedThread × Numbered) → thread_of by sources found d s ≡ Ok next → ThreadsRead base (found, s) → ThreadsRead base (found ++ next.0 ∷ [], next.1)
 unfolding thread_of
 thread_read base by sources found s d next e p =
-    with_ok (required_at (new_id found) key.Id d) _ next (then_ok (element key.Threads d) _ next e) (λ id new e1.
-    with_ok (required_at as_str key.Name d) _ next e1 (λ name named e2.
+    with_ok (new_id_at found d) _ next e (λ id new e1.
+    with_ok (text_at key.Name d) _ next e1 (λ name named e2.
     with_ok (some_items key.Frames d) _ next e2 (λ given some e3.
-    with_ok (each (λ earlier. frame_of by sources) given [] s) _ next e3 (λ frames read e4.
+    with_ok (each key.Frames (λ earlier. frame_of by sources) given [] s) _ next e3 (λ frames read e4.
     let first : FramesRead base s ([], s) = record { since = p.since; frames = at_none (λ i f. Between (length base.scopes) (length s.scopes) f.object); longer = omega arith } in
-    let all = each_holds (λ earlier. frame_of by sources) (FramesRead base s) (λ fs t x n is q. frame_read base s by sources fs t x n is q) given [] s frames read first in
+    let all = each_holds key.Frames (λ earlier. frame_of by sources) (FramesRead base s) (λ fs t x n is q. frame_read base s by sources fs t x n is q) given [] s frames read first in
     let thread : RecordedThread = record { id = id; name = name; frames = frames.0 } in
     subst (λ (x : RecordedThread × Numbered). ThreadsRead base (found ++ x.0 ∷ [], x.1)) (ok_same (thread, frames.1) next e4)
     (record {
@@ -342,20 +342,20 @@ MomentsRead r = AtEach (λ i m. HasOwnNumbers r.1.scopes r.1.variables m) r.0
 moment_read : (by : Teller) (sources : List RecordedSource) (found : List Moment) (s : Numbered) (d : Data) (next : Moment × Numbered) → moment_of by sources d s ≡ Ok next → MomentsRead (found, s) → MomentsRead (found ++ next.0 ∷ [], next.1)
 unfolding moment_of
 moment_read by sources found s d next e p =
-    with_ok (required_at as_array key.Threads d) _ next (then_ok (element key.Moments d) _ next e) (λ given array e1.
-    with_ok (each (thread_of by sources) given [] s) _ next e1 (λ threads read e2.
-    with_ok (required_at (thread_place threads.0) key.Thread d) _ next e2 (λ thread placed e3.
-    with_ok (optional_or as_str [] key.Output d) _ next e3 (λ output written e4.
-    with_ok (optional_or as_bool false key.Waits d) _ next e4 (λ waits held e5.
+    with_ok (items_at key.Threads d) _ next e (λ given array e1.
+    with_ok (each key.Threads (thread_of by sources) given [] s) _ next e1 (λ threads read e2.
+    with_ok (thread_place_at threads.0 d) _ next e2 (λ thread placed e3.
+    with_ok (text_if_any key.Output d) _ next e3 (λ output written e4.
+    with_ok (flag_at key.Waits d) _ next e4 (λ waits held e5.
     with_ok (stop_of d) _ next e5 (λ stop stopped e6.
     let first : ThreadsRead s ([], s) = record { since = since_itself s; threads = at_none (λ t th. OfFrames (length s.scopes) (length s.scopes) th.frames) } in
-    let all = each_holds (thread_of by sources) (ThreadsRead s) (λ fs t x n is q. thread_read s by sources fs t x n is q) given [] s threads read first in
+    let all = each_holds key.Threads (thread_of by sources) (ThreadsRead s) (λ fs t x n is q. thread_read s by sources fs t x n is q) given [] s threads read first in
     let moment : Moment = record { threads = threads.0; thread = thread; output = output; waits = waits; stop = stop; frames = record { from = length s.scopes; to = length threads.1.scopes }; holders = record { from = length s.variables; to = length threads.1.variables } } in
     subst (λ (x : Moment × Numbered). MomentsRead (found ++ x.0 ∷ [], x.1)) (ok_same (moment, threads.1) next e6)
     (at_each_more (λ i m. HasOwnNumbers threads.1.scopes threads.1.variables m) found moment
     (λ i m is. later_too s.scopes threads.1.scopes s.variables threads.1.variables m all.since.begins all.since.added.begins (p i m is))
     (own_numbers s threads thread output waits stop all))))))))
 
-pub spans_read : (by : Teller) (sources : List RecordedSource) (ds : Items) (r : List Moment × Numbered) → each (λ earlier. moment_of by sources) ds [] none_numbered ≡ Ok r → (i : ℕ) (m : Moment) → slice_get r.0 i ≡ Some m → HasOwnNumbers r.1.scopes r.1.variables m
+pub spans_read : (by : Teller) (sources : List RecordedSource) (ds : Items) (r : List Moment × Numbered) → each key.Moments (λ earlier. moment_of by sources) ds [] none_numbered ≡ Ok r → (i : ℕ) (m : Moment) → slice_get r.0 i ≡ Some m → HasOwnNumbers r.1.scopes r.1.variables m
 spans_read by sources ds r e =
-    each_holds (λ earlier. moment_of by sources) MomentsRead (λ found t x next is q. moment_read by sources found t x next is q) ds [] none_numbered r e (at_none (λ i m. HasOwnNumbers [] [] m))
+    each_holds key.Moments (λ earlier. moment_of by sources) MomentsRead (λ found t x next is q. moment_read by sources found t x next is q) ds [] none_numbered r e (at_none (λ i m. HasOwnNumbers [] [] m))

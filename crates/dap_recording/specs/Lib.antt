@@ -1,12 +1,16 @@
 pub mod Recording
 pub mod Sources
+pub mod Lent
 pub mod Snapshot
 pub mod Variables
 pub mod VariableLaws
 pub mod SourceLaws
 pub mod RecordingKey
+pub mod Places
 pub mod Reading
+pub mod Refusals
 pub mod AloneLaw
+pub mod PrivateStops
 pub mod PrivatePaths
 pub mod PrivateHolders
 pub mod PrivateReadThreads

@@ -1,20 +1,21 @@
 -- Words for the private functions that read a recording with no tree of the whole.
-use Rattle.std.specs.Prelude.{◌≡◌, ℤ, List, [], Some, Ok}
+use Rattle.std.specs.Prelude.{◌≡◌, ℤ, List, Some, Ok}
 use Rattle.serde_json.specs.Data.{Members, object}
 use Rattle.dap_json.specs.Steps.{◌>>=◌}
-use Rattle.dap_recording.specs.Reading.{Read, Numbered, none_numbered, required_at, exit_of, few_items, some_items, each_source, moments_of}
+use Rattle.dap_recording.specs.Places.{Read, present_at}
+use Rattle.dap_recording.specs.Reading.{Numbered, none_numbered, exit_at, some_items, source_rows, moments_of}
 use Rattle.dap_recording.specs.declared.reading.RecordingKey.TheVariants as key
 use Rattle.dap_recording.specs.declared.recording.RecordedSource.{RecordedSource}
 use Rattle.dap_recording.specs.declared.recording.Moment.{Moment}
 use Rattle.dap_recording.specs.declared.one_pass.Seen.{Seen}
 
 abbrev pub exit_in : Members → Read ℤ
-exit_in ms = required_at exit_of key.Exit (object ms)
+exit_in ms = exit_at (object ms)
 
 abbrev pub sources_in : Members → Read (List RecordedSource)
 sources_in ms = do
-  given ← few_items key.Sources (object ms)
-  each_source given []
+  given ← present_at key.Sources (object ms)
+  source_rows given
 
 abbrev pub moments_in : List RecordedSource → Members → Read (List Moment × Numbered)
 moments_in sources ms = do

@@ -1,5 +1,5 @@
 -- One moment by itself: what it shows by the numbers that it tells. This profile's choice.
-use Rattle.std.specs.Prelude.{◌≡◌, ℕ, ℤ, ◌≤◌, Bool, ◌&&◌, nat_eq, nat_le, nat_lt, List, [], length, Option, Some, None, option_map, IsTrue, if◌then◌else◌}
+use Rattle.std.specs.Prelude.{◌≡◌, ℕ, ℤ, ◌≤◌, Bool, ◌&&◌, nat_eq, nat_le, nat_lt, List, [], length, map, Option, Some, None, option_map, IsTrue, if◌then◌else◌}
 use Rattle.std.specs.List.{list_all, list_any, slice_get, find, count_by}
 use Rattle.std.specs.Ordering.{int_eq}
 use Rattle.dap_command.specs.Numbers.{is_int}
@@ -50,6 +50,12 @@ thread_with id threads = find (λ thread. int_eq id thread.id) threads
 -- the frames of a thread
 abbrev pub frames_in : List RecordedThread → ℤ → Option (List Frame)
 frames_in threads id = option_map (λ thread. thread.frames) (thread_with id threads)
+
+abbrev pub threads_alone : MomentAlone → List Thread
+threads_alone s = map thread_shown s.moment.threads
+
+abbrev pub frames_alone : MomentAlone → ℤ → Option (List Frame)
+frames_alone s thread = frames_in s.moment.threads thread
 
 abbrev pub is_in : Span → ℕ → Bool
 is_in span n = nat_le span.from n && nat_lt n span.to

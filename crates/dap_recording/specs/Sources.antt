@@ -9,6 +9,9 @@ use Rattle.dap_recording.specs.declared.recording.RecordedSource.{RecordedSource
 abbrev pub source_shown : RecordedSource → Source
 source_shown source = record { name = source.name; path = source.path; on_disk = source.on_disk; more = [] }
 
+abbrev pub shown_at : List RecordedSource → ℕ → Option Source
+shown_at sources index = slice_get (map source_shown sources) index
+
 abbrev pub text_at : List RecordedSource → ℕ → Option (List ℕ)
 text_at sources index = option_map (λ source. source.text) (slice_get sources index)
 

@@ -16,7 +16,7 @@ impl Sources {
     pub fn read(texts: &mut Texts, sources: &Tree) -> Result<Sources, RecordingFault>
         ensures { Gives result (sources_of sources.now) }
     {
-        rows::sources_in(texts, sources.value())
+        Ok(rows::sources_in(texts, sources.value())?)
     }
 }
 
@@ -32,6 +32,6 @@ impl Snapshot {
     ) -> Result<Snapshot, RecordingFault>
         ensures { Gives result (read_moment sources.now moment.now) }
     {
-        rows::moment_alone(texts, sources.as_slice(), moment.value())
+        Ok(rows::moment_alone(texts, sources.as_slice(), moment.value())?)
     }
 }

@@ -2,21 +2,23 @@
 //!
 //! Whatever is refused, and where memory is, nothing is given, and [`Recording::read`] reads the bytes whole. So only what is
 //! given has to be right.
-ghost use Rattle.std.specs.Prelude.{◌≡◌, ◌≤◌, length, ℤ, List as Items, Option, Some, None, Ok, IfOk, IfSome, OnOk};
+ghost use Rattle.std.specs.Prelude.{◌≡◌, ◌≤◌, length, ℤ, List as Items, Option, Some, None, Ok, true, IfOk, IfSome, OnOk};
 ghost use Rattle.serde_json.specs.Data.{Data, Items as DataItems, Members, array as array_data, object, no_members, put};
 ghost use Rattle.serde_json.specs.View.{view};
+ghost use Rattle.dap_json.specs.Field.{is_object};
 ghost use Rattle.dap_json.specs.Read.{json_of};
 ghost use Rattle.dap_json.specs.ObjectReader.{IsRestOf, IsNext};
-ghost use Rattle.dap_recording.specs.Reading.{moment_of, moments_of, sources_of, recording_of, verdict_of};
+ghost use Rattle.dap_recording.specs.Reading.{moment_of, moments_of, source_rows, recording_of, verdict_of};
 ghost use Rattle.dap_recording.specs.RecordingKey.{name_of};
 ghost use Rattle.dap_recording.specs.PrivateOnePass.{HoldsSeen};
 ghost use Rattle.dap_recording.specs.declared.reading.RecordingKey.TheVariants as key;
 ghost use Rattle.dap_recording.specs.declared.reading.Teller.TheVariants as teller;
 
-use crate::reading::{RecordingFault, RecordingKey, Teller};
+use crate::reading::{RecordingKey, Teller};
 use crate::recording::{Moment, RecordedSource, Recording};
 use crate::rows::Numbers;
 use crate::sources::Sources;
+use crate::stop::Stop;
 use crate::texts::Texts;
 use crate::{numbers, rows};
 use dap_json::List;
@@ -46,8 +48,8 @@ impl<T: Drop> From<AllocFailed<T>> for NotGiven {
     }
 }
 
-impl From<RecordingFault> for NotGiven {
-    fn from(_fault: RecordingFault) -> NotGiven {
+impl From<Stop> for NotGiven {
+    fn from(_stop: Stop) -> NotGiven {
         NotGiven
     }
 }
@@ -60,15 +62,19 @@ struct Seen {
     moments: Option<(List<Moment>, Numbers)>,
 }
 
-/// The moment that an item is, which is dropped.
+/// The moment that an item is, which is an object, and is dropped.
 fn moment(
     texts: &mut Texts,
     sources: &[RecordedSource],
     item: Value,
     numbers: &mut Numbers,
 ) -> Result<Moment, NotGiven>
-    ensures { IfOk result (λ m. moment_of teller.Recording sources.now (view item) numbers.old ≡ Ok (m, numbers.new)) }
+    ensures is { IfOk result (λ m. moment_of teller.Recording sources.now (view item) numbers.old ≡ Ok (m, numbers.new)) }
+    ensures object { IfOk result (λ _. is_object (view item) ≡ true) }
 {
+    if !item.is_object() {
+        return Err(NotGiven);
+    }
     let moment = rows::moment(texts, Teller::Recording, sources, &item, numbers)?;
     Ok(moment)
 }
@@ -105,7 +111,7 @@ fn take_exit(
 
 /// The sources that the items of an array are.
 fn sources(texts: &mut Texts, value: &Value) -> Result<Vec<RecordedSource>, NotGiven>
-    ensures rows { IfOk result (λ rows. sources_of (view value.now) ≡ Ok rows.items) }
+    ensures rows { IfOk result (λ rows. source_rows (view value.now) ≡ Ok rows.items) }
     ensures few { IfOk result (λ rows. length rows.items ≤ 65536) }
 {
     let rows = rows::source_rows(texts, value)?;

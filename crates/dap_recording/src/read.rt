@@ -32,7 +32,7 @@ impl Recording {
         if !value.is_object() {
             return Err(RecordingFault::NotObject);
         }
-        rows::recording(&mut texts, &value)
+        Ok(rows::recording(&mut texts, &value)?)
     }
 }
 
@@ -52,7 +52,7 @@ impl Sources {
             Err(ParseFault::OutOfMemory) => return Err(RecordingFault::OutOfMemory),
         };
         if file.is_object() {
-            rows::sources_at(texts, &file)
+            Ok(rows::sources_at(texts, &file)?)
         } else {
             Err(RecordingFault::NotObject)
         }

@@ -1,5 +1,5 @@
 //! The threads of a moment, as they are read one after the other.
-ghost use Rattle.std.specs.Prelude.{◌≡◌, ◌++◌, ◌∷◌, [], is_some, IfOk};
+ghost use Rattle.std.specs.Prelude.{◌≡◌, ◌++◌, ◌∷◌, [], length, is_some, IfOk};
 ghost use Rattle.dap_recording.specs.Reading.{place_of};
 
 use crate::recording::RecordedThread;
@@ -39,6 +39,13 @@ impl ReadThreads {
             threads: Vec::with_capacity(alloc, count)?,
             ids: BTreeSet::new(alloc),
         })
+    }
+
+    /// How many there are.
+    pub(crate) fn len(&self) -> usize
+        ensures { result ≡ length self.now }
+    {
+        self.threads.len()
     }
 
     /// Whether one of them has the id.

@@ -1,19 +1,19 @@
 //! What stands at the keys of a recording.
-ghost use Rattle.std.specs.Prelude.{◌≡◌, [], false};
+ghost use Rattle.std.specs.Prelude.{◌≡◌};
 ghost use Rattle.serde_json.specs.View.{view};
-ghost use Rattle.serde_json.specs.Find.{as_str, as_bool, as_array};
-ghost use Rattle.serde_json.specs.Data.{no_items};
-ghost use Rattle.dap_json.specs.Lent.{lent_data};
-ghost use Rattle.dap_json.specs.More.{more_of};
-ghost use Rattle.dap_recording.specs.declared.reading.RecordingKey.TheVariants as key;
-ghost use Rattle.dap_recording.specs.Reading.{Gives, GivesItems, element as element_of, exit_of, some_items as some_items_of, short_text as short_text_of, few_items as few_items_of, few_in, value_at, required_at, optional_at, optional_or};
+ghost use Rattle.dap_recording.specs.Places.{present_at};
+ghost use Rattle.dap_recording.specs.PrivateStops.{Finds, FindsItems, FindsValue};
+ghost use Rattle.dap_recording.specs.Reading.{text_at, text_if_any, optional_text_at, short_text_at, flag_at, exit_at, items_at, items_if_any as items_if_any_of, more_at, some_items as some_items_of, few_items as few_items_of};
 
+use crate::causes;
 use crate::numbers;
+use crate::place::{BadCause, JsonKind};
+use crate::stop;
+use crate::stop::Stop;
 use crate::texts::Texts;
-use dap_json::property::Property;
 use dap_json::{More, Text};
 use serde_json::Value;
-use std::alloc::{AllocError, AllocFailed};
+use std::alloc::{AllocError, AllocFailed, Global};
 
 /// A key of a recording.
 #[derive(Clone, Copy, Debug, PartialEq, Eq)]
@@ -84,16 +84,6 @@ impl<T: Drop> From<AllocFailed<T>> for RecordingFault {
     }
 }
 
-impl From<RecordingKey> for RecordingFault {
-    ghost use Rattle.dap_recording.specs.declared.reading.RecordingFault.TheVariants.{BadKey};
-
-    ghost from_gives = { λ key e. e ≡ BadKey key };
-
-    fn from(key: RecordingKey) -> RecordingFault {
-        RecordingFault::BadKey { key }
-    }
-}
-
 impl RecordingKey {
     ghost use Rattle.dap_recording.specs.RecordingKey.{name_of};
 
@@ -127,52 +117,43 @@ impl RecordingKey {
     }
 }
 
-pub(crate) fn bad(key: RecordingKey) -> RecordingFault
-    ensures { result ≡ RecordingFault.BadKey key }
+/// What stands at a key, which has to be there.
+pub(crate) fn present<'v>(
+    alloc: Global,
+    value: &'v Value,
+    key: RecordingKey,
+) -> Result<&'v Value, Stop>
+    ensures { FindsValue result (present_at key (view value.now)) }
 {
-    RecordingFault::BadKey { key }
-}
-
-/// An element of the array at a key is an object.
-pub(crate) fn element(value: &Value, key: RecordingKey) -> Result<(), RecordingFault>
-    ensures { Gives result (element_of key (view value.now)) }
-{
-    if value.is_object() {
-        Ok(())
-    } else {
-        Err(bad(key))
+    match value.get(key.name()) {
+        Some(found) => Ok(found),
+        None => Err(stop::here(alloc, key, BadCause::Absent)),
     }
 }
 
-/// What stands at a key of an object.
-pub(crate) fn at<'v>(value: &'v Value, key: RecordingKey) -> Property<'v, RecordingKey>
-    ensures key { result.key ≡ key }
-    ensures found { lent_data result.found ≡ value_at key (view value.now) }
+pub(crate) fn text(texts: &mut Texts, value: &Value, key: RecordingKey) -> Result<Text, Stop>
+    ensures { Finds result (text_at key (view value.now)) }
 {
-    let found = value.get(key.name());
-    Property { found, key }
-}
-
-pub(crate) fn text(
-    texts: &mut Texts,
-    value: &Value,
-    key: RecordingKey,
-) -> Result<Text, RecordingFault>
-    ensures { Gives result (required_at as_str key (view value.now)) }
-{
-    Ok(texts.text(at(value, key).required_text()?)?)
+    let found = present(texts.alloc, value, key)?;
+    match found.as_str() {
+        Some(text) => Ok(texts.text(text)?),
+        None => Err(stop::other(texts.alloc, key, found, JsonKind::Text)),
+    }
 }
 
 pub(crate) fn optional_text(
     texts: &mut Texts,
     value: &Value,
     key: RecordingKey,
-) -> Result<Option<Text>, RecordingFault>
-    ensures { Gives result (optional_at as_str key (view value.now)) }
+) -> Result<Option<Text>, Stop>
+    ensures { Finds result (optional_text_at key (view value.now)) }
 {
-    match at(value, key).optional_text()? {
-        None => Ok(None),
+    let Some(found) = value.get(key.name()) else {
+        return Ok(None);
+    };
+    match found.as_str() {
         Some(text) => Ok(Some(texts.text(text)?)),
+        None => Err(stop::other(texts.alloc, key, found, JsonKind::Text)),
     }
 }
 
@@ -182,15 +163,19 @@ pub(crate) fn short_text(
     value: &Value,
     most: usize,
     key: RecordingKey,
-) -> Result<Option<Text>, RecordingFault>
-    ensures { Gives result (optional_at (short_text_of most) key (view value.now)) }
+) -> Result<Option<Text>, Stop>
+    ensures { Finds result (short_text_at most key (view value.now)) }
 {
-    match at(value, key).found {
-        None => Ok(None),
-        Some(found) => match found.as_str() {
-            Some(text) if text.len() <= most => Ok(Some(texts.text(text)?)),
-            _ => Err(bad(key)),
-        },
+    let Some(found) = value.get(key.name()) else {
+        return Ok(None);
+    };
+    match found.as_str() {
+        Some(text) if text.len() <= most => Ok(Some(texts.text(text)?)),
+        _ => Err(stop::here(
+            texts.alloc,
+            key,
+            causes::no_short_text(found, most),
+        )),
     }
 }
 
@@ -198,88 +183,114 @@ pub(crate) fn text_or_empty(
     texts: &mut Texts,
     value: &Value,
     key: RecordingKey,
-) -> Result<Text, RecordingFault>
-    ensures { Gives result (optional_or as_str [] key (view value.now)) }
+) -> Result<Text, Stop>
+    ensures { Finds result (text_if_any key (view value.now)) }
 {
-    Ok(texts.text(at(value, key).optional_text()?.unwrap_or(""))?)
+    let Some(found) = value.get(key.name()) else {
+        return Ok(texts.text("")?);
+    };
+    match found.as_str() {
+        Some(text) => Ok(texts.text(text)?),
+        None => Err(stop::other(texts.alloc, key, found, JsonKind::Text)),
+    }
 }
 
-pub(crate) fn flag(value: &Value, key: RecordingKey) -> Result<bool, RecordingFault>
-    ensures { Gives result (optional_or as_bool false key (view value.now)) }
+pub(crate) fn flag(alloc: Global, value: &Value, key: RecordingKey) -> Result<bool, Stop>
+    ensures { Finds result (flag_at key (view value.now)) }
 {
-    Ok(at(value, key).flag_or(false)?)
+    let Some(found) = value.get(key.name()) else {
+        return Ok(false);
+    };
+    match found.as_bool() {
+        Some(flag) => Ok(flag),
+        None => Err(stop::other(alloc, key, found, JsonKind::Boolean)),
+    }
 }
 
-pub(crate) fn exit(value: &Value, key: RecordingKey) -> Result<i32, RecordingFault>
-    ensures { Gives result (required_at exit_of key (view value.now)) }
+pub(crate) fn exit(alloc: Global, value: &Value) -> Result<i32, Stop>
+    ensures { Finds result (exit_at (view value.now)) }
 {
-    Ok(at(value, key).found.and_then(numbers::status).ok_or(key)?)
+    let found = present(alloc, value, RecordingKey::Exit)?;
+    match numbers::status(found) {
+        Some(status) => Ok(status),
+        None => Err(stop::here(
+            alloc,
+            RecordingKey::Exit,
+            causes::no_exit(found),
+        )),
+    }
 }
 
-pub(crate) fn items(value: &Value, key: RecordingKey) -> Result<&[Value], RecordingFault>
-    ensures { GivesItems result (required_at as_array key (view value.now)) }
+pub(crate) fn items(alloc: Global, value: &Value, key: RecordingKey) -> Result<&[Value], Stop>
+    ensures { FindsItems result (items_at key (view value.now)) }
 {
-    Ok(at(value, key).required_items()?)
+    let found = present(alloc, value, key)?;
+    match found.as_array() {
+        Some(items) => Ok(items),
+        None => Err(stop::other(alloc, key, found, JsonKind::Array)),
+    }
 }
 
 /// The members of the object at `more`; none where that is absent.
-pub(crate) fn more(texts: &Texts, value: &Value) -> Result<More, RecordingFault>
-    ensures { Gives result (optional_or more_of [] key.More (view value.now)) }
+pub(crate) fn more(texts: &Texts, value: &Value) -> Result<More, Stop>
+    ensures { Finds result (more_at (view value.now)) }
 {
-    let Some(found) = at(value, RecordingKey::More).found else {
+    let Some(found) = value.get(RecordingKey::More.name()) else {
         return Ok(More::none());
     };
     match More::of(texts.alloc, found)? {
         Some(more) => Ok(more),
-        None => Err(bad(RecordingKey::More)),
+        None => Err(stop::here(
+            texts.alloc,
+            RecordingKey::More,
+            causes::no_more(found),
+        )),
     }
 }
 
 /// An absent array is empty.
-pub(crate) fn items_if_any(value: &Value, key: RecordingKey) -> Result<&[Value], RecordingFault>
-    ensures { GivesItems result (optional_or as_array no_items key (view value.now)) }
+pub(crate) fn items_if_any(
+    alloc: Global,
+    value: &Value,
+    key: RecordingKey,
+) -> Result<&[Value], Stop>
+    ensures { FindsItems result (items_if_any_of key (view value.now)) }
 {
-    let Some(found) = at(value, key).found else {
+    let Some(found) = value.get(key.name()) else {
         return Ok(&[]);
     };
     match found.as_array() {
         Some(items) => Ok(items),
-        None => Err(bad(key)),
+        None => Err(stop::other(alloc, key, found, JsonKind::Array)),
     }
 }
 
 #[tactic(auto, using(crate::proofs::Elements::count_is_length))]
-pub(crate) fn some_items(value: &Value, key: RecordingKey) -> Result<&[Value], RecordingFault>
-    ensures { GivesItems result (some_items_of key (view value.now)) }
+pub(crate) fn some_items(
+    alloc: Global,
+    value: &Value,
+    key: RecordingKey,
+) -> Result<&[Value], Stop>
+    ensures { FindsItems result (some_items_of key (view value.now)) }
 {
-    let items = items(value, key)?;
+    let items = items(alloc, value, key)?;
     if items.is_empty() {
-        return Err(bad(key));
+        return Err(stop::here(alloc, key, BadCause::NoElements));
     }
     Ok(items)
 }
 
 /// The elements of an array, which is not too long.
 #[tactic(auto, using(crate::proofs::Elements::count_is_length))]
-pub(crate) fn few(value: &Value, key: RecordingKey) -> Result<&[Value], RecordingFault>
-    ensures { GivesItems result (few_in key (view value.now)) }
+pub(crate) fn few_items(alloc: Global, value: &Value, key: RecordingKey) -> Result<&[Value], Stop>
+    ensures { FindsItems result (few_items_of key (view value.now)) }
 {
     let Some(items) = value.as_array() else {
-        return Err(bad(key));
+        return Err(stop::other(alloc, key, value, JsonKind::Array));
     };
     if items.len() > numbers::MAX_SOURCES {
-        return Err(bad(key));
-    }
-    Ok(items)
-}
-
-#[tactic(auto, using(crate::proofs::Elements::count_is_length))]
-pub(crate) fn few_items(value: &Value, key: RecordingKey) -> Result<&[Value], RecordingFault>
-    ensures { GivesItems result (few_items_of key (view value.now)) }
-{
-    let items = items(value, key)?;
-    if items.len() > numbers::MAX_SOURCES {
-        return Err(bad(key));
+        let count = items.len() as u64;
+        return Err(stop::here(alloc, key, BadCause::TooMany { count }));
     }
     Ok(items)
 }

@@ -2,15 +2,19 @@
 ghost use Rattle.std.specs.Prelude.{◌≡◌, ◌≤◌, ◌++◌, [], length, IfOk, OnOk};
 ghost use Rattle.serde_json.specs.View.{view, items_view};
 ghost use Rattle.dap_recording.specs.declared.reading.RecordingKey.TheVariants as key;
-ghost use Rattle.dap_recording.specs.Reading.{Numbered, GivesListWith, GivesList, Gives, GivesWith, none_numbered, untold_of, stop_of, frame_source as frame_source_of, frame_line as frame_line_of, value_at, required_at, read_variables, variable_row, variables_of, holder_of, with_holder, each, each_source, scope_of, scopes_of, frame_of, thread_of, moment_of, moments_of, source_of, recording_of, source_place as source_place_of, line_of, lines_at, place_of, new_id as new_id_of, thread_place as thread_place_of, sources_of, sources_at as sources_at_of, read_moment};
+ghost use Rattle.dap_recording.specs.Places.{value_at};
+ghost use Rattle.dap_recording.specs.PrivateStops.{Finds, FindsWith, FindsList, FindsListWith};
+ghost use Rattle.dap_recording.specs.Reading.{Numbered, none_numbered, untold_of, stop_of, source_at, line_at, new_id_at, thread_place_at, frame_source as frame_source_of, frame_line as frame_line_of, read_variables, variable_row, variables_of, holder_of, with_holder, each, each_source, scope_of, scopes_of, frame_of, thread_of, moment_of, moments_of, source_of, recording_of, lines_at, place_of, source_rows as source_rows_of, sources_at as sources_at_of, moment_alone as moment_alone_of};
 
 use crate::read_threads::ReadThreads;
-use crate::reading::{RecordingFault, RecordingKey, Teller, bad};
+use crate::place::JsonKind;
+use crate::reading::{RecordingKey, Teller};
 use crate::recording::{Moment, OwnStop, RecordedSource, RecordedThread, Recording, Span};
 use crate::snapshot::Snapshot;
 use crate::sources::Sources;
+use crate::stop::Stop;
 use crate::texts::Texts;
-use crate::{numbers, reading};
+use crate::{causes, numbers, reading, stop};
 use dap_debuggee::{Frame, Scope, Variable};
 use dap_json::List;
 use serde_json::Value;
@@ -41,10 +45,9 @@ fn variable(
     texts: &mut Texts,
     value: &Value,
     holders: &mut Vec<List<Variable>>,
-) -> Result<Variable, RecordingFault>
-    ensures { GivesWith result holders.new.items (variable_row (view value.now) holders.old.items) }
+) -> Result<Variable, Stop>
+    ensures { FindsWith result holders.new.items (variable_row (view value.now) holders.old.items) }
 {
-    reading::element(value, RecordingKey::Variables)?;
     let name = reading::text(texts, value, RecordingKey::Name)?;
     let text = reading::text(texts, value, RecordingKey::Value)?;
     let inner = children(texts, value, holders)?;
@@ -64,8 +67,8 @@ fn children(
     texts: &mut Texts,
     value: &Value,
     holders: &mut Vec<List<Variable>>,
-) -> Result<Vec<Variable>, RecordingFault>
-    ensures { GivesListWith result holders.new.items (read_variables (value_at key.Variables (view value.now)) holders.old.items) }
+) -> Result<Vec<Variable>, Stop>
+    ensures { FindsListWith result holders.new.items (read_variables (value_at key.Variables (view value.now)) holders.old.items) }
 {
     match value.get(RecordingKey::Variables.name()) {
         None => Ok(Vec::new(texts.alloc)),
@@ -78,15 +81,25 @@ fn variables(
     texts: &mut Texts,
     value: &Value,
     holders: &mut Vec<List<Variable>>,
-) -> Result<Vec<Variable>, RecordingFault>
-    ensures { GivesListWith result holders.new.items (variables_of (view value.now) holders.old.items) }
+) -> Result<Vec<Variable>, Stop>
+    ensures { FindsListWith result holders.new.items (variables_of (view value.now) holders.old.items) }
 {
     let Some(items) = value.as_array() else {
-        return Err(bad(RecordingKey::Variables));
+        return Err(stop::other(
+            texts.alloc,
+            RecordingKey::Variables,
+            value,
+            JsonKind::Array,
+        ));
     };
     let mut found = Vec::with_capacity(texts.alloc, items.len())?;
     for item in items {
-        found.push(variable(texts, item, holders)?)?;
+        let index = found.len();
+        stop::element(texts.alloc, item, RecordingKey::Variables, index)?;
+        match variable(texts, item, holders) {
+            Ok(variable) => found.push(variable)?,
+            Err(why) => return Err(stop::within(texts.alloc, why, RecordingKey::Variables, index)),
+        }
     }
     Ok(found)
 }
@@ -98,10 +111,9 @@ fn scope(
     texts: &mut Texts,
     value: &Value,
     holders: &mut Vec<List<Variable>>,
-) -> Result<Scope, RecordingFault>
-    ensures { GivesWith result holders.new.items (scope_of (view value.now) holders.old.items) }
+) -> Result<Scope, Stop>
+    ensures { FindsWith result holders.new.items (scope_of (view value.now) holders.old.items) }
 {
-    reading::element(value, RecordingKey::Scopes)?;
     let name = reading::text(texts, value, RecordingKey::Name)?;
     let inner = children(texts, value, holders)?;
     let more = reading::more(texts, value)?;
@@ -115,12 +127,17 @@ fn each_scope(
     texts: &mut Texts,
     items: &[Value],
     holders: &mut Vec<List<Variable>>,
-) -> Result<Vec<Scope>, RecordingFault>
-    ensures { GivesListWith result holders.new.items (scopes_of (items_view items.now) holders.old.items) }
+) -> Result<Vec<Scope>, Stop>
+    ensures { FindsListWith result holders.new.items (scopes_of (items_view items.now) holders.old.items) }
 {
     let mut found = Vec::with_capacity(texts.alloc, items.len())?;
     for item in items {
-        found.push(scope(texts, item, holders)?)?;
+        let index = found.len();
+        stop::element(texts.alloc, item, RecordingKey::Scopes, index)?;
+        match scope(texts, item, holders) {
+            Ok(scope) => found.push(scope)?,
+            Err(why) => return Err(stop::within(texts.alloc, why, RecordingKey::Scopes, index)),
+        }
     }
     Ok(found)
 }
@@ -161,43 +178,46 @@ impl Model for Numbers {
 }
 
 /// The place of one of the sources.
-fn source_place(sources: &[RecordedSource], value: &Value) -> Result<u32, RecordingFault>
-    ensures { Gives result (required_at (source_place_of sources.now) key.Source (view value.now)) }
+fn source_place(alloc: Global, sources: &[RecordedSource], value: &Value) -> Result<u32, Stop>
+    ensures { Finds result (source_at sources.now (view value.now)) }
 {
-    match value
-        .get(RecordingKey::Source.name())
-        .and_then(numbers::number)
-    {
+    let found = reading::present(alloc, value, RecordingKey::Source)?;
+    match numbers::number(found) {
         Some(place) if (place as usize) < sources.len() => Ok(place),
-        _ => Err(bad(RecordingKey::Source)),
+        _ => {
+            let cause = causes::no_source(found, sources.len() as u64);
+            Err(stop::here(alloc, RecordingKey::Source, cause))
+        }
     }
 }
 
 /// A line of a text that has so many.
-fn line(lines: u64, value: &Value) -> Result<u32, RecordingFault>
-    ensures { Gives result (required_at (line_of lines) key.Line (view value.now)) }
+fn line(alloc: Global, lines: u64, value: &Value) -> Result<u32, Stop>
+    ensures { Finds result (line_at lines (view value.now)) }
 {
-    match value
-        .get(RecordingKey::Line.name())
-        .and_then(numbers::number)
-    {
+    let found = reading::present(alloc, value, RecordingKey::Line)?;
+    match numbers::number(found) {
         Some(line) if 1 <= line && line as u64 <= lines => Ok(line),
-        _ => Err(bad(RecordingKey::Line)),
+        _ => {
+            let cause = causes::no_line(found, lines);
+            Err(stop::here(alloc, RecordingKey::Line, cause))
+        }
     }
 }
 
 /// The source of a frame.
 fn frame_source(
+    alloc: Global,
     teller: Teller,
     sources: &[RecordedSource],
     value: &Value,
-) -> Result<Option<u32>, RecordingFault>
-    ensures { Gives result (frame_source_of teller sources.now (view value.now)) }
+) -> Result<Option<u32>, Stop>
+    ensures { Finds result (frame_source_of teller sources.now (view value.now)) }
 {
     if teller == Teller::Host && value.get(RecordingKey::Source.name()).is_none() {
         return Ok(None);
     }
-    Ok(Some(source_place(sources, value)?))
+    Ok(Some(source_place(alloc, sources, value)?))
 }
 
 fn lines_of(sources: &[RecordedSource], place: u32) -> u64
@@ -211,15 +231,16 @@ fn lines_of(sources: &[RecordedSource], place: u32) -> u64
 
 /// The line of a frame in its source, if it has one.
 fn frame_line(
+    alloc: Global,
     sources: &[RecordedSource],
     source: Option<u32>,
     value: &Value,
-) -> Result<u32, RecordingFault>
-    ensures { Gives result (frame_line_of sources.now source (view value.now)) }
+) -> Result<u32, Stop>
+    ensures { Finds result (frame_line_of sources.now source (view value.now)) }
 {
     match source {
         None => Ok(0),
-        Some(source) => line(lines_of(sources, source), value),
+        Some(source) => line(alloc, lines_of(sources, source), value),
     }
 }
 
@@ -231,14 +252,13 @@ fn frame(
     sources: &[RecordedSource],
     value: &Value,
     numbers: &mut Numbers,
-) -> Result<Frame, RecordingFault>
-    ensures { GivesWith result numbers.new (frame_of teller sources.now (view value.now) numbers.old) }
+) -> Result<Frame, Stop>
+    ensures { FindsWith result numbers.new (frame_of teller sources.now (view value.now) numbers.old) }
 {
-    reading::element(value, RecordingKey::Frames)?;
     let name = reading::text(texts, value, RecordingKey::Name)?;
-    let source = frame_source(teller, sources, value)?;
-    let line = frame_line(sources, source, value)?;
-    let items = reading::items_if_any(value, RecordingKey::Scopes)?;
+    let source = frame_source(texts.alloc, teller, sources, value)?;
+    let line = frame_line(texts.alloc, sources, source, value)?;
+    let items = reading::items_if_any(texts.alloc, value, RecordingKey::Scopes)?;
     let scopes = each_scope(texts, items, &mut numbers.variables)?;
     let more = reading::more(texts, value)?;
     add_untold(items, &scopes, &mut numbers.untold)?;
@@ -259,12 +279,17 @@ fn frames(
     sources: &[RecordedSource],
     items: &[Value],
     numbers: &mut Numbers,
-) -> Result<Vec<Frame>, RecordingFault>
-    ensures { GivesListWith result numbers.new (each (λ earlier. frame_of teller sources.now) (items_view items.now) [] numbers.old) }
+) -> Result<Vec<Frame>, Stop>
+    ensures { FindsListWith result numbers.new (each key.Frames (λ earlier. frame_of teller sources.now) (items_view items.now) [] numbers.old) }
 {
     let mut found = Vec::with_capacity(texts.alloc, items.len())?;
     for item in items {
-        found.push(frame(texts, teller, sources, item, numbers)?)?;
+        let index = found.len();
+        stop::element(texts.alloc, item, RecordingKey::Frames, index)?;
+        match frame(texts, teller, sources, item, numbers) {
+            Ok(frame) => found.push(frame)?,
+            Err(why) => return Err(stop::within(texts.alloc, why, RecordingKey::Frames, index)),
+        }
     }
     Ok(found)
 }
@@ -282,24 +307,30 @@ fn place(id: i64, threads: &[RecordedThread]) -> Option<usize>
 }
 
 /// An id that no earlier thread has.
-fn new_id(earlier: &ReadThreads, value: &Value) -> Result<i64, RecordingFault>
-    ensures { Gives result (required_at (new_id_of earlier.now) key.Id (view value.now)) }
+fn new_id(alloc: Global, earlier: &ReadThreads, value: &Value) -> Result<i64, Stop>
+    ensures { Finds result (new_id_at earlier.now (view value.now)) }
 {
-    match value.get(RecordingKey::Id.name()).and_then(numbers::int) {
+    let found = reading::present(alloc, value, RecordingKey::Id)?;
+    match numbers::int(found) {
         Some(id) if !earlier.has(id) => Ok(id),
-        _ => Err(bad(RecordingKey::Id)),
+        _ => {
+            let cause = causes::no_new_id(found);
+            Err(stop::here(alloc, RecordingKey::Id, cause))
+        }
     }
 }
 
-fn thread_place(threads: &[RecordedThread], value: &Value) -> Result<usize, RecordingFault>
-    ensures { Gives result (required_at (thread_place_of threads.now) key.Thread (view value.now)) }
+/// The place of the thread that a moment names.
+fn thread_place(alloc: Global, threads: &[RecordedThread], value: &Value) -> Result<usize, Stop>
+    ensures { Finds result (thread_place_at threads.now (view value.now)) }
 {
-    match value
-        .get(RecordingKey::Thread.name())
-        .and_then(numbers::int)
-    {
-        Some(id) => place(id, threads).ok_or(bad(RecordingKey::Thread)),
-        None => Err(bad(RecordingKey::Thread)),
+    let found = reading::present(alloc, value, RecordingKey::Thread)?;
+    match numbers::int(found).and_then(|id| place(id, threads)) {
+        Some(place) => Ok(place),
+        None => {
+            let cause = causes::no_thread(found);
+            Err(stop::here(alloc, RecordingKey::Thread, cause))
+        }
     }
 }
 
@@ -311,13 +342,12 @@ fn thread(
     earlier: &ReadThreads,
     value: &Value,
     numbers: &mut Numbers,
-) -> Result<RecordedThread, RecordingFault>
-    ensures { GivesWith result numbers.new (thread_of teller sources.now earlier.now (view value.now) numbers.old) }
+) -> Result<RecordedThread, Stop>
+    ensures { FindsWith result numbers.new (thread_of teller sources.now earlier.now (view value.now) numbers.old) }
 {
-    reading::element(value, RecordingKey::Threads)?;
-    let id = new_id(earlier, value)?;
+    let id = new_id(texts.alloc, earlier, value)?;
     let name = reading::text(texts, value, RecordingKey::Name)?;
-    let items = reading::some_items(value, RecordingKey::Frames)?;
+    let items = reading::some_items(texts.alloc, value, RecordingKey::Frames)?;
     let frames = frames(texts, teller, sources, items, numbers)?;
     Ok(RecordedThread {
         id,
@@ -332,13 +362,17 @@ fn threads(
     sources: &[RecordedSource],
     items: &[Value],
     numbers: &mut Numbers,
-) -> Result<Vec<RecordedThread>, RecordingFault>
-    ensures { GivesListWith result numbers.new (each (thread_of teller sources.now) (items_view items.now) [] numbers.old) }
+) -> Result<Vec<RecordedThread>, Stop>
+    ensures { FindsListWith result numbers.new (each key.Threads (thread_of teller sources.now) (items_view items.now) [] numbers.old) }
 {
     let mut found = ReadThreads::with_capacity(texts.alloc, items.len())?;
     for item in items {
-        let thread = thread(texts, teller, sources, &found, item, numbers)?;
-        found = found.with(thread)?;
+        let index = found.len();
+        stop::element(texts.alloc, item, RecordingKey::Threads, index)?;
+        match thread(texts, teller, sources, &found, item, numbers) {
+            Ok(thread) => found = found.with(thread)?,
+            Err(why) => return Err(stop::within(texts.alloc, why, RecordingKey::Threads, index)),
+        }
     }
     Ok(found.into_vec())
 }
@@ -347,8 +381,8 @@ fn threads(
 
 /// Why a run stops at a moment, where it always does.
 #[tactic(auto, unfolding(crate::specs::Reading::stop_of))]
-fn own_stop(texts: &mut Texts, value: &Value) -> Result<Option<OwnStop>, RecordingFault>
-    ensures { Gives result (stop_of (view value.now)) }
+fn own_stop(texts: &mut Texts, value: &Value) -> Result<Option<OwnStop>, Stop>
+    ensures { Finds result (stop_of (view value.now)) }
 {
     let reason = reading::short_text(texts, value, numbers::MAX_REASON, RecordingKey::Stop)?;
     let description = reading::short_text(
@@ -375,11 +409,10 @@ pub(crate) fn moment(
     sources: &[RecordedSource],
     value: &Value,
     numbers: &mut Numbers,
-) -> Result<Moment, RecordingFault>
-    ensures { GivesWith result numbers.new (moment_of teller sources.now (view value.now) numbers.old) }
+) -> Result<Moment, Stop>
+    ensures { FindsWith result numbers.new (moment_of teller sources.now (view value.now) numbers.old) }
 {
-    reading::element(value, RecordingKey::Moments)?;
-    let items = reading::items(value, RecordingKey::Threads)?;
+    let items = reading::items(texts.alloc, value, RecordingKey::Threads)?;
     let frames_from = numbers.scopes.len() as u64;
     let holders_from = numbers.variables.len() as u64;
     let threads = threads(texts, teller, sources, items, numbers)?;
@@ -391,9 +424,9 @@ pub(crate) fn moment(
         from: holders_from,
         to: numbers.variables.len() as u64,
     };
-    let thread = thread_place(&threads, value)?;
+    let thread = thread_place(texts.alloc, &threads, value)?;
     let output = reading::text_or_empty(texts, value, RecordingKey::Output)?;
-    let waits = reading::flag(value, RecordingKey::Waits)?;
+    let waits = reading::flag(texts.alloc, value, RecordingKey::Waits)?;
     let stop = own_stop(texts, value)?;
     Ok(Moment {
         threads: List::new(threads),
@@ -412,25 +445,29 @@ fn moments(
     sources: &[RecordedSource],
     items: &[Value],
     numbers: &mut Numbers,
-) -> Result<Vec<Moment>, RecordingFault>
-    ensures { GivesListWith result numbers.new (moments_of sources.now (items_view items.now) numbers.old) }
+) -> Result<Vec<Moment>, Stop>
+    ensures { FindsListWith result numbers.new (moments_of sources.now (items_view items.now) numbers.old) }
 {
     let mut found = Vec::with_capacity(texts.alloc, items.len())?;
     for item in items {
-        found.push(moment(texts, Teller::Recording, sources, item, numbers)?)?;
+        let index = found.len();
+        stop::element(texts.alloc, item, RecordingKey::Moments, index)?;
+        match moment(texts, Teller::Recording, sources, item, numbers) {
+            Ok(moment) => found.push(moment)?,
+            Err(why) => return Err(stop::within(texts.alloc, why, RecordingKey::Moments, index)),
+        }
     }
     Ok(found)
 }
 
 #[tactic(auto, unfolding(crate::specs::Reading::source_of))]
-fn source(texts: &mut Texts, value: &Value) -> Result<RecordedSource, RecordingFault>
-    ensures { Gives result (source_of (view value.now)) }
+fn source(texts: &mut Texts, value: &Value) -> Result<RecordedSource, Stop>
+    ensures { Finds result (source_of (view value.now)) }
 {
-    reading::element(value, RecordingKey::Sources)?;
     let name = reading::text(texts, value, RecordingKey::Name)?;
     let path = reading::optional_text(texts, value, RecordingKey::Path)?;
     let text = reading::text(texts, value, RecordingKey::Text)?;
-    let on_disk = reading::flag(value, RecordingKey::OnDisk)?;
+    let on_disk = reading::flag(texts.alloc, value, RecordingKey::OnDisk)?;
     let lines = numbers::line_count(text.as_str());
     Ok(RecordedSource {
         name,
@@ -444,12 +481,17 @@ fn source(texts: &mut Texts, value: &Value) -> Result<RecordedSource, RecordingF
 pub(crate) fn sources(
     texts: &mut Texts,
     items: &[Value],
-) -> Result<Vec<RecordedSource>, RecordingFault>
-    ensures { GivesList result (each_source (items_view items.now) []) }
+) -> Result<Vec<RecordedSource>, Stop>
+    ensures { FindsList result (each_source (items_view items.now) []) }
 {
     let mut found = Vec::with_capacity(texts.alloc, items.len())?;
     for item in items {
-        found.push(source(texts, item)?)?;
+        let index = found.len();
+        stop::element(texts.alloc, item, RecordingKey::Sources, index)?;
+        match source(texts, item) {
+            Ok(source) => found.push(source)?,
+            Err(why) => return Err(stop::within(texts.alloc, why, RecordingKey::Sources, index)),
+        }
     }
     Ok(found)
 }
@@ -511,37 +553,34 @@ impl Numbers {
     }
 }
 
-/// The recording that an object is, or its first bad key.
-#[tactic(auto, unfolding(crate::specs::Reading::recording_of))]
-pub(crate) fn recording(texts: &mut Texts, value: &Value) -> Result<Recording, RecordingFault>
-    ensures { Gives result (recording_of (view value.now)) }
-{
-    let exit = reading::exit(value, RecordingKey::Exit)?;
-    let items = reading::few_items(value, RecordingKey::Sources)?;
-    let sources = sources(texts, items)?;
-    let items = reading::some_items(value, RecordingKey::Moments)?;
-    let mut numbers = Numbers::new(texts.alloc);
-    let moments = moments(texts, &sources, items, &mut numbers)?;
-    let sources = Sources::new(texts.alloc, sources)?;
-    Ok(numbers.into_recording(exit, sources, moments))
-}
-
 /// The sources that an array is, before the map of their paths is made.
-pub(crate) fn source_rows(
-    texts: &mut Texts,
-    value: &Value,
-) -> Result<Vec<RecordedSource>, RecordingFault>
-    ensures rows { GivesList result (sources_of (view value.now)) }
+pub(crate) fn source_rows(texts: &mut Texts, value: &Value) -> Result<Vec<RecordedSource>, Stop>
+    ensures rows { FindsList result (source_rows_of (view value.now)) }
     ensures few { IfOk result (λ rows. length rows.items ≤ 65536) }
 {
-    let items = reading::few(value, RecordingKey::Sources)?;
+    let items = reading::few_items(texts.alloc, value, RecordingKey::Sources)?;
     let rows = sources(texts, items)?;
     Ok(rows)
 }
 
+/// The recording that an object is, or its first bad place.
+#[tactic(auto, unfolding(crate::specs::Reading::recording_of))]
+pub(crate) fn recording(texts: &mut Texts, value: &Value) -> Result<Recording, Stop>
+    ensures { Finds result (recording_of (view value.now)) }
+{
+    let exit = reading::exit(texts.alloc, value)?;
+    let found = reading::present(texts.alloc, value, RecordingKey::Sources)?;
+    let rows = source_rows(texts, found)?;
+    let items = reading::some_items(texts.alloc, value, RecordingKey::Moments)?;
+    let mut numbers = Numbers::new(texts.alloc);
+    let moments = moments(texts, &rows, items, &mut numbers)?;
+    let sources = Sources::new(texts.alloc, rows)?;
+    Ok(numbers.into_recording(exit, sources, moments))
+}
+
 /// The sources that an array is.
-pub(crate) fn sources_in(texts: &mut Texts, value: &Value) -> Result<Sources, RecordingFault>
-    ensures { Gives result (sources_of (view value.now)) }
+pub(crate) fn sources_in(texts: &mut Texts, value: &Value) -> Result<Sources, Stop>
+    ensures { Finds result (source_rows_of (view value.now)) }
 {
     let rows = source_rows(texts, value)?;
     Ok(Sources::new(texts.alloc, rows)?)
@@ -549,23 +588,30 @@ pub(crate) fn sources_in(texts: &mut Texts, value: &Value) -> Result<Sources, Re
 
 /// The sources of an object.
 #[tactic(auto, unfolding(crate::specs::Reading::sources_at))]
-pub(crate) fn sources_at(texts: &mut Texts, value: &Value) -> Result<Sources, RecordingFault>
-    ensures { Gives result (sources_at_of (view value.now)) }
+pub(crate) fn sources_at(texts: &mut Texts, value: &Value) -> Result<Sources, Stop>
+    ensures { Finds result (sources_at_of (view value.now)) }
 {
-    let items = reading::few_items(value, RecordingKey::Sources)?;
-    let sources = sources(texts, items)?;
-    Ok(Sources::new(texts.alloc, sources)?)
+    let found = reading::present(texts.alloc, value, RecordingKey::Sources)?;
+    sources_in(texts, found)
 }
 
 /// One moment over sources.
-#[tactic(auto, unfolding(crate::specs::Reading::read_moment))]
+#[tactic(auto, unfolding(crate::specs::Reading::moment_alone))]
 pub(crate) fn moment_alone(
     texts: &mut Texts,
     sources: &[RecordedSource],
     value: &Value,
-) -> Result<Snapshot, RecordingFault>
-    ensures { Gives result (read_moment sources.now (view value.now)) }
+) -> Result<Snapshot, Stop>
+    ensures { Finds result (moment_alone_of sources.now (view value.now)) }
 {
+    if !value.is_object() {
+        return Err(stop::other(
+            texts.alloc,
+            RecordingKey::Moments,
+            value,
+            JsonKind::Object,
+        ));
+    }
     let mut numbers = Numbers::new(texts.alloc);
     let moment = moment(texts, Teller::Host, sources, value, &mut numbers)?;
     Ok(numbers.into_snapshot(moment, sources.len()))

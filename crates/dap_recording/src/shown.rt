@@ -3,6 +3,7 @@ ghost use Rattle.std.specs.Prelude.{◌≡◌, IfOk, IsErrOf, map, option_map};
 ghost use Rattle.std.specs.List.{slice_get};
 ghost use Rattle.std.specs.Option.{IsSome};
 ghost use Rattle.dap_debuggee.specs.Laws.{AnswersQuery};
+ghost use Rattle.dap_recording.specs.Lent.{lent_value, LacksMemoryOnlyFor};
 ghost use Rattle.dap_recording.specs.Snapshot.{frames_in, if_in, is_among, is_in as is_in_span, thread_shown, thread_with};
 
 use crate::recording::{RecordedThread, Span};
@@ -63,7 +64,7 @@ pub fn frames_of(
     id: i64,
 ) -> Result<Vec<Frame>, DebuggeeFault>
     ensures frames { AnswersQuery result (λ frames. frames.items) (frames_in threads.now id) }
-    ensures memory { IsErrOf result DebuggeeFault.OutOfMemory → IsSome (frames_in threads.now id) }
+    ensures memory { LacksMemoryOnlyFor result (frames_in threads.now id) }
 {
     match thread_of(threads, id) {
         None => Err(DebuggeeFault::Refused),
@@ -91,8 +92,8 @@ fn scopes(alloc: Global, scopes: &[Scope]) -> Result<Vec<Scope>, AllocError>
 /// # Errors
 /// `Refused` where none were, `OutOfMemory` where memory is refused.
 pub fn scopes_of(alloc: Global, found: Option<&[Scope]>) -> Result<Vec<Scope>, DebuggeeFault>
-    ensures scopes { AnswersQuery result (λ scopes. scopes.items) (option_map (λ s. s.now) found.entry) }
-    ensures memory { IsErrOf result DebuggeeFault.OutOfMemory → IsSome (option_map (λ s. s.now) found.entry) }
+    ensures scopes { AnswersQuery result (λ scopes. scopes.items) (lent_value found.entry) }
+    ensures memory { LacksMemoryOnlyFor result (lent_value found.entry) }
 {
     match found {
         None => Err(DebuggeeFault::Refused),
@@ -109,7 +110,7 @@ pub fn is_in(span: Span, number: u64) -> bool
 
 /// The list at a number, where that is in a span.
 pub fn list_in<T>(span: Span, lists: &[List<T>], number: u64) -> Option<&[T]>
-    ensures { option_map (λ list. list.now) result ≡ if_in span number (slice_get lists.now number) }
+    ensures { lent_value result ≡ if_in span number (slice_get lists.now number) }
 {
     if !is_in(span, number) {
         return None;

@@ -50,8 +50,9 @@ impl Snapshot {
     ghost use Rattle.std.specs.Prelude.{◌≡◌, IfOk, Some, map, option_map};
     ghost use Rattle.std.specs.List.{slice_get};
     ghost use Rattle.dap_debuggee.specs.Laws.{AnswersQuery};
+    ghost use Rattle.dap_recording.specs.Lent.{lent_value};
     ghost use Rattle.dap_recording.specs.Recording.{IsRecording};
-    ghost use Rattle.dap_recording.specs.Snapshot.{IsAlone, HasIds, NameSources, NameOne, alone_in, thread_shown, frames_in, scopes_alone, children_alone, is_among};
+    ghost use Rattle.dap_recording.specs.Snapshot.{IsAlone, HasIds, NameSources, NameOne, alone_in, threads_alone, frames_alone, scopes_alone, children_alone, is_among};
 
     /// The first moment of a recording, whose others are let go.
     pub fn first_of(recording: Recording) -> Snapshot
@@ -94,8 +95,8 @@ impl Snapshot {
 
     /// Its threads.
     pub fn threads(&self, alloc: Global) -> Result<Vec<Thread>, AllocError>
-        ensures threads { IfOk result (λ threads. threads.items ≡ map thread_shown self.now.moment.threads) }
-        ensures in_range { HasIds (map thread_shown self.now.moment.threads) }
+        ensures threads { IfOk result (λ threads. threads.items ≡ threads_alone self.now) }
+        ensures in_range { HasIds (threads_alone self.now) }
     {
         self.is_alone();
         shown::threads(alloc, self.moment.threads.as_slice())
@@ -106,9 +107,9 @@ impl Snapshot {
     /// # Errors
     /// `Refused` where there is no such thread, `OutOfMemory` where memory is refused.
     pub fn frames(&self, alloc: Global, thread: i64) -> Result<Vec<Frame>, DebuggeeFault>
-        ensures frames { AnswersQuery result (λ frames. frames.items) (frames_in self.now.moment.threads thread) }
-        ensures in_range { NameSources self.now.sources (frames_in self.now.moment.threads) }
-        ensures one_name { NameOne (frames_in self.now.moment.threads) }
+        ensures frames { AnswersQuery result (λ frames. frames.items) (frames_alone self.now thread) }
+        ensures in_range { NameSources self.now.sources (frames_alone self.now) }
+        ensures one_name { NameOne (frames_alone self.now) }
     {
         self.is_alone();
         shown::frames_of(alloc, self.moment.threads.as_slice(), thread)
@@ -116,7 +117,7 @@ impl Snapshot {
 
     /// The scopes of a frame, by its object number.
     pub fn scopes_at(&self, frame: u64) -> Option<&[Scope]>
-        ensures { option_map (λ s. s.now) result ≡ scopes_alone self.now frame }
+        ensures { lent_value result ≡ scopes_alone self.now frame }
     {
         shown::list_in(self.moment.frames, self.scopes.as_slice(), frame)
     }
@@ -133,7 +134,7 @@ impl Snapshot {
 
     /// The variables of a holder, by its object number.
     pub fn children_at(&self, holder: u64) -> Option<&[Variable]>
-        ensures { option_map (λ v. v.now) result ≡ children_alone self.now holder }
+        ensures { lent_value result ≡ children_alone self.now holder }
     {
         shown::list_in(self.moment.holders, self.variables.as_slice(), holder)
     }

@@ -39,7 +39,8 @@ impl Sources {
     ghost use Rattle.std.specs.Prelude.{IsErrOf};
     ghost use Rattle.dap_debuggee.specs.Laws.{AnswersQuery};
     ghost use Rattle.dap_recording.specs.PrivatePaths.{lines_of_key};
-    ghost use Rattle.dap_recording.specs.Sources.{text_at, lines_verified};
+    ghost use Rattle.dap_recording.specs.Lent.{LacksMemoryOnlyFor};
+    ghost use Rattle.dap_recording.specs.Sources.{shown_at, text_at, lines_verified};
 
     /// The sources of a `Vec`, without a copy.
     pub fn new(alloc: Global, sources: Vec<RecordedSource>) -> Result<Sources, AllocError>
@@ -113,8 +114,8 @@ impl Sources {
     /// # Errors
     /// `Refused` where there is none at the place, `OutOfMemory` where memory is refused.
     pub fn source(&self, index: u32) -> Result<Source, DebuggeeFault>
-        ensures source { AnswersQuery result (λ source. source) (slice_get (map source_shown self.now) index) }
-        ensures memory { IsErrOf result DebuggeeFault.OutOfMemory → IsSome (slice_get (map source_shown self.now) index) }
+        ensures source { AnswersQuery result (λ source. source) (shown_at self.now index) }
+        ensures memory { LacksMemoryOnlyFor result (shown_at self.now index) }
     {
         match self.get(index) {
             None => Err(DebuggeeFault::Refused),
@@ -128,7 +129,7 @@ impl Sources {
     /// Those of [`source`](Sources::source).
     pub fn content(&self, index: u32) -> Result<Text, DebuggeeFault>
         ensures text { AnswersQuery result (λ text. text) (text_at self.now index) }
-        ensures memory { IsErrOf result DebuggeeFault.OutOfMemory → IsSome (text_at self.now index) }
+        ensures memory { LacksMemoryOnlyFor result (text_at self.now index) }
     {
         match self.get(index) {
             None => Err(DebuggeeFault::Refused),
@@ -157,7 +158,7 @@ impl Sources {
         source: &SourceKey,
         lines: &[u32],
     ) -> Result<Vec<bool>, AllocError>
-        ensures { IfOk result (λ answers. answers.items ≡ lines_verified self.now source.now lines.now) }
+        ensures { IfOk result (λ v. v.items ≡ lines_verified self.now source.now lines.now) }
     {
         let most = self.lines_of(source);
         verified(alloc, most, lines)

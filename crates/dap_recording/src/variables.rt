@@ -72,7 +72,7 @@ pub fn with_assigned(
     name: &str,
     assigned: &Assigned,
 ) -> Result<Vec<Variable>, AllocError>
-    ensures { IfOk result (λ changed. changed.items ≡ with_assigned_in name.now assigned.now variables.now) }
+    ensures { IfOk result (λ v. v.items ≡ with_assigned_in name.now assigned.now variables.now) }
 {
     let mut changed = Vec::with_capacity(alloc, variables.len())?;
     let mut is_set = false;

@@ -2,12 +2,13 @@ use Rattle.std.proofs.Common.{sym, ap, ◌∙◌, arith}
 use Rattle.serde_json.specs.Data.{no_items, item}
 use Rattle.serde_json.specs.View.{view}
 use Rattle.dap_recording.specs.Reading.{each, moment_of, moments_of}
+use Rattle.dap_recording.specs.declared.reading.RecordingKey.TheVariants as key
 use Rattle.dap_recording.specs.declared.reading.Teller.TheVariants as teller
 use Rattle.dap_recording.proofs.OnePassLemmas.{one_moment}
 use Rattle.dap_recording.proofs.one_pass.each_moment.Goals as goal
 
 pub loop-found-init : goal.loop-found-init
-loop-found-init c = (λ rest later is. (later, is, ap (λ xs. each (λ earlier. moment_of teller.Recording c.args.sources.now) later xs c.args.numbers.now) (sym c.new-found.ensures.items)), omega arith)
+loop-found-init c = (λ rest later is. (later, is, ap (λ xs. each key.Moments (λ earlier. moment_of teller.Recording c.args.sources.now) later xs c.args.numbers.now) (sym c.new-found.ensures.items)), omega arith)
 
 pub loop-found-preserved : goal.loop-found-preserved
 loop-found-preserved c =
@@ -20,8 +21,8 @@ loop-found-preserved c =
             all.0,
             all.1,
             all.2
-                ∙ one_moment sources (view c.in-Some.item) later l.found.items l.numbers c.moment.new.numbers c.in_ok-moment.field-0 c.in_ok-moment.ensures
-                ∙ ap (λ xs. each (λ earlier. moment_of teller.Recording sources) later xs c.moment.new.numbers) (sym c.in_ok-push.ensures.items),
+                ∙ one_moment sources (view c.in-Some.item) later l.found.items l.numbers c.moment.new.numbers c.in_ok-moment.field-0 c.in_ok-moment.ensures.object c.in_ok-moment.ensures.is
+                ∙ ap (λ xs. each key.Moments (λ earlier. moment_of teller.Recording sources) later xs c.moment.new.numbers) (sym c.in_ok-push.ensures.items),
           ),
       omega (arith, l.invariant.1, shorter),
     )

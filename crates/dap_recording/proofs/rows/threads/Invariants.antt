@@ -1,8 +1,9 @@
 use Rattle.std.proofs.Common.{◌≡◌, [], drop}
 use Rattle.serde_json.specs.View.{items_view}
 use Rattle.dap_recording.specs.Reading.{each, thread_of}
+use Rattle.dap_recording.specs.declared.reading.RecordingKey.TheVariants as key
 use Rattle.dap_recording.proofs.rows.threads.Given as goal
 
 -- those so far, and those of what is left, are all of them
 abbrev pub invariant-loop-item : goal.invariant-loop-item
-invariant-loop-item l = each (thread_of l.teller l.sources) (items_view (drop l.item-index l.items)) l.found l.numbers ≡ each (thread_of l.teller l.sources) (items_view l.items) [] l.initial.numbers
+invariant-loop-item l = each key.Threads (thread_of l.teller l.sources) (items_view (drop l.item-index l.items)) l.found l.numbers ≡ each key.Threads (thread_of l.teller l.sources) (items_view l.items) [] l.initial.numbers

@@ -1,7 +1,7 @@
 //! Why bytes are no recording, and where.
 
+use crate::reading::RecordingKey;
 use dap_json::List;
-use dap_recording::RecordingKey;
 
 /// A kind of JSON value, as RFC 8259 has them.
 #[derive(Clone, Copy, Debug, PartialEq, Eq)]

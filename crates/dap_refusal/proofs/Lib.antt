@@ -1,3 +1,0 @@
-pub mod CheckedElements
-pub mod SameKey
-mod RefusalsExamples
