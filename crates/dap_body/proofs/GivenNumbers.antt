@@ -51,13 +51,13 @@ bodies_give_their_numbers =
       variables = λ variables. numbers_read (codes "variablesReference") 1 (λ v. object_of (variable v)) (λ v. v.variables_reference) (λ v. own (variable_fields v) v.more (codes "variablesReference") refl refl) variables;
       evaluate = λ result reference more.
           rw (number_read (codes "variablesReference") 1 reference (evaluate_body result reference more) (own (evaluate_fields result reference) more (codes "variablesReference") refl refl)) (cons_passing (is_reference 1 reference) reference []);
-      evaluate_alone = λ result reference more. (
+      evaluate_elsewhere = λ result reference more. (
         rw (own (evaluate_fields result reference) more (codes "stackFrames") refl refl) refl,
         rw (own (evaluate_fields result reference) more (codes "scopes") refl refl) refl,
         rw (own (evaluate_fields result reference) more (codes "variables") refl refl) refl,
       );
       set_variable = λ value more. rw (own (set_variable_fields value) more (codes "variablesReference") refl refl) refl;
-      set_variable_alone = λ value more. (
+      set_variable_elsewhere = λ value more. (
         rw (own (set_variable_fields value) more (codes "stackFrames") refl refl) refl,
         rw (own (set_variable_fields value) more (codes "scopes") refl refl) refl,
         rw (own (set_variable_fields value) more (codes "variables") refl refl) refl,

@@ -18,7 +18,7 @@ pub record BodiesGiveTheirNumbers : Type 0 where
   pub scopes : (scopes : List Scope) → holders_of Scopes (scopes_body scopes) ≡ references_among 1 (map (λ s. s.variables_reference) scopes)
   pub variables : (variables : List Variable) → holders_of Variables (variables_body variables) ≡ references_among 1 (map (λ v. v.variables_reference) variables)
   pub evaluate : (result : List ℕ) (reference : ℕ) (more : List Member) → holders_of Evaluate (evaluate_body result reference more) ≡ references_among 1 (reference ∷ [])
-  -- and, read as that of another command, none
-  pub evaluate_alone : (result : List ℕ) (reference : ℕ) (more : List Member) → (frame_ids (evaluate_body result reference more) ≡ []) × (holders_of Scopes (evaluate_body result reference more) ≡ []) × (holders_of Variables (evaluate_body result reference more) ≡ [])
+  -- and, read as that of stackTrace, scopes or variables, none
+  pub evaluate_elsewhere : (result : List ℕ) (reference : ℕ) (more : List Member) → (frame_ids (evaluate_body result reference more) ≡ []) × (holders_of Scopes (evaluate_body result reference more) ≡ []) × (holders_of Variables (evaluate_body result reference more) ≡ [])
   pub set_variable : (value : List ℕ) (more : List Member) → holders_of SetVariable (set_variable_body value more) ≡ []
-  pub set_variable_alone : (value : List ℕ) (more : List Member) → (frame_ids (set_variable_body value more) ≡ []) × (holders_of Scopes (set_variable_body value more) ≡ []) × (holders_of Variables (set_variable_body value more) ≡ [])
+  pub set_variable_elsewhere : (value : List ℕ) (more : List Member) → (frame_ids (set_variable_body value more) ≡ []) × (holders_of Scopes (set_variable_body value more) ≡ []) × (holders_of Variables (set_variable_body value more) ≡ [])

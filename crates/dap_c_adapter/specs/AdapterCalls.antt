@@ -138,7 +138,7 @@ pub record RefusesPoll (told : Coming) (old new : HeldAdapter) (code : ℕ) (fou
   pub held : new.adapter.intake.held ≡ []
   pub none_written : new.bytes.items ≡ []
 
--- a recording that is none, or memory that was refused, as a code
+-- a moment or sources that are none, or memory that was refused, as a code
 abbrev pub IsCodeOfRecording : ℕ → Type 0
 IsCodeOfRecording code = (code ≡ 107) ⊎ (code ≡ 104)
 

@@ -34,7 +34,7 @@ use Rattle.dap_c_adapter.specs.declared.held_adapter.HeldAdapter.{HeldAdapter}
 abbrev pub IsFreshWithin : YtLimits → HeldAdapter → Type 0
 IsFreshWithin limits h = h.adapter.session ≡ fresh_session (settings_of limits)
 
--- over the sources of a recording
+-- over the sources of a file
 abbrev pub OpensOver : List ℕ → HeldAdapter → Type 0
 OpensOver base h = IsOpenedOver (json_of base) h.adapter.debuggee
 
@@ -163,7 +163,7 @@ LatchesUnlessText code old new = (fault : AdapterFault) → old.adapter.fault �
 abbrev pub StaysOpenApart : HeldAdapter → HeldAdapter → Type 0
 StaysOpenApart old new = old.adapter.fault ≡ None → has_debuggee old.adapter.session.phase ≡ false → new.adapter.fault ≡ None
 
--- a code that does not say that a text, or a recording, is none
+-- a code that does not say that a text, a moment or sources are none
 abbrev pub AcceptsText : ℕ → Type 0
 AcceptsText code = (code ≡ 103 → ⊥) × (code ≡ 107 → ⊥)
 

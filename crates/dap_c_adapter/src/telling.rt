@@ -3,7 +3,7 @@
 //! What does not happen in the state that the debuggee is in, or is out of its range, is dropped, and the code says why. What
 //! is told is in the debuggee's mail for one poll (`Tells`); what is shown then is what the host told. Only the adapter behind
 //! the handle and what the caller lends for an answer are touched.
-ghost use Rattle.std.specs.Prelude.{◌≡◌, ◌⊎◌, ◌≤◌, ◌++◌, ◌∷◌, IfOk, IfErr, IfSome, IsSome, IsOk, IsUtf8, Some, None, Ok, Err, false, [], length, if◌then◌else◌, ◌≢◌};
+ghost use Rattle.std.specs.Prelude.{◌≡◌, ◌⊎◌, ◌≤◌, ◌<◌, ◌++◌, ◌∷◌, IfOk, IfErr, IfSome, IsSome, IsOk, IsUtf8, Some, None, Ok, Err, false, [], length, if◌then◌else◌, ◌≢◌};
 ghost use Rattle.dap_json.specs.Read.{json_of};
 ghost use Rattle.dap_recording.specs.Reading.{file_sources, read_moment};
 ghost use Rattle.dap_plan.specs.Polling.{has_debuggee};
@@ -89,6 +89,7 @@ fn tell_given(
     ensures apart { held.old.adapter.fault ≡ None → has_debuggee held.old.adapter.session.phase ≡ false → held.new.adapter.fault ≡ None }
     ensures length { found.new.bytes ≡ length held.new.bytes.items }
     ensures why { (result ≡ YT_BAD_ARGUMENTS) ⊎ (result ≡ YT_BAD_RECORDING) → coming ≡ Err result }
+    ensures unread { IfErr coming (λ code. result ≡ code) }
     ensures limits { held.new.adapter.session.limits ≡ held.old.adapter.session.limits }
     ensures frame { (held.new.frame ≡ held.old.frame) × (held.new.whole ≡ held.old.whole) }
     ensures acts { KeepsActs held.old held.new }
@@ -119,6 +120,7 @@ pub(crate) fn tell_handle(
     ensures apart { FromTo adapter.old adapter.new StaysOpenApart }
     ensures length { FromTo adapter.old adapter.new (LeavesBytes found.new.bytes) }
     ensures why { (result ≡ YT_BAD_ARGUMENTS) ⊎ (result ≡ YT_BAD_RECORDING) → coming ≡ Err result }
+    ensures unread { FromTo adapter.old adapter.new (λ a b. IfErr coming (λ code. result ≡ code)) }
     ensures limits { FromTo adapter.old adapter.new KeepsLimits }
     ensures frame { FromTo adapter.old adapter.new KeepsFrame }
     ensures acts { FromTo adapter.old adapter.new KeepsActs }
@@ -204,6 +206,7 @@ pub(crate) fn sources_given(alloc: Global, bytes: &[u8]) -> Result<Sources, u32>
 fn output_given(alloc: Global, category: u32, output: &[u8]) -> Result<Coming, u32>
     ensures said { IfOk result (λ told. told ≡ said.Output (category_of category) output.now) }
     ensures wanted { category ≤ 2 → IsUtf8 output.now → IfErr result (λ code. code ≡ YT_NO_MEMORY) }
+    ensures unknown { 2 < category → result ≡ Err YT_BAD_ARGUMENTS }
     ensures code { IfErr result IsCodeOfText }
 {
     let category = match category {
@@ -255,6 +258,7 @@ pub extern "C" fn yt_adapter_output(
     ensures apart { FromTo adapter.old adapter.new StaysOpenApart }
     ensures length { FromTo adapter.old adapter.new (LeavesBytes found.new.bytes) }
     ensures wanted { category ≤ 2 → IsUtf8 output.now → AcceptsText result }
+    ensures unknown { FromTo adapter.old adapter.new (λ a b. 2 < category → result ≡ YT_BAD_ARGUMENTS) }
     ensures limits { FromTo adapter.old adapter.new KeepsLimits }
     ensures frame { FromTo adapter.old adapter.new KeepsFrame }
     ensures acts { FromTo adapter.old adapter.new KeepsActs }

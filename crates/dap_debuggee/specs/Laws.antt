@@ -156,7 +156,7 @@ with_assigned name a (x ∷ xs) = if bytes_eq name x.name then record { name = x
 abbrev pub children_after : ℕ → List ℕ → Assigned → (ℕ → Option (List Variable)) → ℕ → Option (List Variable)
 children_after holder name a before h = if nat_eq h holder then option_map (with_assigned name a) (before h) else before h
 
--- The first variable of the name directly in the holder has the value. State and lines are as `Moves` and `SetsLines` tell; nothing else changes, but the count of acts, the last one and what texts evaluate to
+-- The first variable of the name directly in the holder has the value, with what is said beside it. State and lines are as `Moves` and `SetsLines` tell; nothing else changes, but the count of acts, the last one and what texts evaluate to
 pub record SetsOneValue (holder : ℕ) (name : List ℕ) (a : Assigned) (v w : Shown) : Type 0 where
   pub threads : w.threads ≡ v.threads
   pub frames : (thread : ℤ) → w.frames thread ≡ v.frames thread

@@ -71,9 +71,9 @@ pub trait Debuggee {
         ensures { OnOk result (follows self.old (to_set_breakpoints source.now lines.now) done self.new) };
 
     /// Sets the first variable of a name directly in a holder, by its object number, to the value that `assigned` tells of it,
-    /// with what that says beside it, such as another type. No other variable changes, nor what `assigned` tells of any text: a debuggee for which that is not so refuses in
-    /// `assigned`. One that always refuses there is never asked this. It gives this call clauses of its own, those of the trait
-    /// without the `requires`, which no caller could meet, and answers `AllocError`.
+    /// with what that says beside it, such as another type. No other variable changes, nor what `assigned` tells of any text: a
+    /// debuggee for which that is not so refuses in `assigned`. One that always refuses there is never asked this. It gives this
+    /// call clauses of its own, those of the trait without the `requires`, which no caller could meet, and answers `AllocError`.
     ///
     /// # Errors
     /// `AllocError` where memory is refused. All is then as it was, but the count of acts and the last one.

@@ -20,7 +20,7 @@ use Rattle.dap_plan.specs.Polling.{has_debuggee}
 use Rattle.dap_plan.specs.Session.{Session, fresh_session}
 use Rattle.dap_plan.specs.declared.fault.AdapterFault.{AdapterFault}
 use Rattle.dap_host.specs.Fed.{AnswersFed, TellsFed, over_mail}
-use Rattle.dap_host.specs.Hearing.{HostState, sources_of, IsGoing, SameButAdapter, TakesMessage, AnswersMessage, TellsIt, StopsMessage, StopsTelling, RefusesTold, bad_moment, dropped, IsUnheard, drop_of}
+use Rattle.dap_host.specs.Hearing.{HostState, sources_there, IsGoing, SameButAdapter, TakesMessage, AnswersMessage, TellsIt, StopsMessage, StopsTelling, RefusesTold, bad_moment, dropped, IsUnheard, drop_of}
 use Rattle.dap_line.specs.Written.{message_lines, act_lines}
 use Rattle.dap_live.specs.declared.mail.Coming.{Coming}
 use Rattle.dap_live.specs.declared.mail.Dropped.{Dropped as Drop}
@@ -154,11 +154,11 @@ if_err (Err e) f h = f e h
 pub err_weaker : {A E : Type 0} {P Q : E → Type 0} (r : Result A E) → ((e : E) → P e → Q e) → IfErr r P → IfErr r Q
 err_weaker r f h = if_err r f h
 
-at_moment : (h : HostState) (text : List ℕ) (t : Told) → said_of text ≡ Ok (Happened t) → drop_of h.adapter.session.phase t ≡ None → (u : Unread) → Fails (sources_of h) t u → IsUnheard h text u
+at_moment : (h : HostState) (text : List ℕ) (t : Told) → said_of text ≡ Ok (Happened t) → drop_of h.adapter.session.phase t ≡ None → (u : Unread) → Fails (sources_there h) t u → IsUnheard h text u
 at_moment h text t is kept (Refused why) fails = bad_moment t is kept fails
 at_moment h text t is kept NoMemory fails = tt
 
-pub unheard_at : (o h : HostState) (text : List ℕ) (sources : List RecordedSource) (phase : Phase) (t : Told) (r : Result Coming Unread) (found : Option Drop) → o ≡ h → said_of text ≡ Ok (Happened t) → phase ≡ o.adapter.session.phase → found ≡ drop_of phase t → found ≡ None → sources ≡ sources_of o → IfErr r (Fails sources t) → IfErr r (IsUnheard h text)
+pub unheard_at : (o h : HostState) (text : List ℕ) (sources : List RecordedSource) (phase : Phase) (t : Told) (r : Result Coming Unread) (found : Option Drop) → o ≡ h → said_of text ≡ Ok (Happened t) → phase ≡ o.adapter.session.phase → found ≡ drop_of phase t → found ≡ None → sources ≡ sources_there o → IfErr r (Fails sources t) → IfErr r (IsUnheard h text)
 unheard_at o h text sources phase t r found e is p d none s fails =
     let kept : drop_of o.adapter.session.phase t ≡ None = ap (λ (z : Phase). drop_of z t) (sym p) ∙ (sym d ∙ none) in
     subst (λ (z : HostState). IfErr r (IsUnheard z text)) e (if_err r (λ u. at_moment o text t is kept u) (subst (λ (z : List RecordedSource). IfErr r (Fails z t)) s fails))

@@ -52,8 +52,8 @@ pub record HostState : Type 0 where
   pub number : ℕ
 
 -- the sources over which moments are read: those of the debuggee
-abbrev pub sources_of : HostState → List RecordedSource
-sources_of h = h.adapter.debuggee.sources
+abbrev pub sources_there : HostState → List RecordedSource
+sources_there h = h.adapter.debuggee.sources
 
 -- its adapter is open, between two messages, what it wrote can be read, and the debuggee has no mail
 pub record IsGoing (h : HostState) : Type 0 where
@@ -119,14 +119,14 @@ pub record Comes (h : HostState) (text : List ℕ) (coming : Coming) : Type 0 wh
   pub told : Told
   pub is : said_of text ≡ Ok (Happened told)
   pub in_turn : drop_of h.adapter.session.phase told ≡ None
-  pub comes : IsComing (sources_of h) told coming
+  pub comes : IsComing (sources_there h) told coming
 
 -- why what a host tells is refused: it is not read, or it is dropped, or its moment is none, or there is no room for its sources
 pub data RefusesTold (h : HostState) (text : List ℕ) (why : Refusal) : Type 0 where
   unread : said_of text ≡ Err why → RefusesTold h text why
   dropped : (told : Told) (drop : Drop) → said_of text ≡ Ok (Happened told) → drop_of h.adapter.session.phase told ≡ Some drop → why ≡ Dropped drop → RefusesTold h text why
-  bad_moment : (told : Told) → said_of text ≡ Ok (Happened told) → drop_of h.adapter.session.phase told ≡ None → Fails (sources_of h) told (Refused why) → RefusesTold h text why
-  no_room : (coming : Coming) → Comes h text coming → (HasRoom (sources_of h) coming → ⊥) → why ≡ Dropped TooManySources → RefusesTold h text why
+  bad_moment : (told : Told) → said_of text ≡ Ok (Happened told) → drop_of h.adapter.session.phase told ≡ None → Fails (sources_there h) told (Refused why) → RefusesTold h text why
+  no_room : (coming : Coming) → Comes h text coming → (HasRoom (sources_there h) coming → ⊥) → why ≡ Dropped TooManySources → RefusesTold h text why
 
 -- the same; nothing is said where memory was refused
 abbrev pub IsUnheard : HostState → List ℕ → Unread → Type 0
@@ -136,7 +136,7 @@ IsUnheard h text NoMemory = Unit {0}
 -- it is heard, where there is room
 pub record HearsTold (h : HostState) (text : List ℕ) (coming : Coming) : Type 0 where
   pub comes : Comes h text coming
-  pub room : HasRoom (sources_of h) coming
+  pub room : HasRoom (sources_there h) coming
 
 -- a line is refused, and nothing else has changed
 pub record Refuses (old : HostState) (why : Refusal) (before after : List ℕ) (new : HostState) : Type 0 where

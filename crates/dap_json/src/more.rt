@@ -91,7 +91,7 @@ impl More {
         })
     }
 
-    /// The members of an object; `None` where a value is none, or its members cannot stand beside others: there is a float
+    /// The members of an object; `None` where a value is no object, or its members cannot stand beside others: there is a float
     /// among them, or they nest too deep.
     pub fn of(alloc: Global, value: &Value) -> Result<Option<More>, AllocError>
         ensures { IfOk result (λ more. more ≡ more_of (view value.now)) }

@@ -148,7 +148,7 @@ fn value_in(alloc: Global, told: &Value) -> Result<Option<Text>, Unread>
 }
 
 /// What is said beside a variable or a value, where something is.
-fn said_in(alloc: Global, told: &Value) -> Result<Result<Option<More>, HostKey>, AllocError>
+fn beside_in(alloc: Global, told: &Value) -> Result<Result<Option<More>, HostKey>, AllocError>
     ensures { IfOk result (λ said. said ≡ optional_at more_of HostKey.More (view told.now)) }
 {
     let Some(found) = at(told, HostKey::More).found else {
@@ -177,7 +177,7 @@ fn variable_in(alloc: Global, value: &Value) -> Result<Variable, Unread>
     let name = text_at(alloc, value, HostKey::Name)?;
     let text = text_at(alloc, value, HostKey::Value)?;
     let holder = holder_in(value)?;
-    let said = said_in(alloc, value)?;
+    let said = beside_in(alloc, value)?;
     let said = said?;
     Ok(Variable {
         name,
@@ -257,7 +257,7 @@ fn learned_in(alloc: Global, told: &Value) -> Result<Told, Unread>
     let text = text_at(alloc, told, HostKey::Text)?;
     let value = value_in(alloc, told)?;
     let holder = holder_in(told)?;
-    let said = said_in(alloc, told)?;
+    let said = beside_in(alloc, told)?;
     let more = said?;
     Ok(Told::Learned {
         text,

@@ -77,11 +77,7 @@ impl Here {
         };
         match self.variable_in(text, scopes) {
             None => Err(DebuggeeFault::Refused),
-            Some(variable) => Ok(Evaluation {
-                value: variable.value.clone()?,
-                holder: variable.holder,
-                more: variable.more.clone()?,
-            }),
+            Some(variable) => Ok(variables::evaluation(variable)?),
         }
     }
 }

@@ -38,7 +38,7 @@ breakpoints-none o answers = none-in o (set_breakpoints_body answers) refl refl 
 
 value-none : (o : Option Command) (value : List ℕ) (more : List Member) → references_given_in o (Some (set_variable_body value more)) ≡ []
 value-none o value more =
-    let alone = bodies_give_their_numbers.set_variable_alone value more in
+    let alone = bodies_give_their_numbers.set_variable_elsewhere value more in
     none-in o (set_variable_body value more) alone.0 alone.1 alone.2 (bodies_give_their_numbers.set_variable value more)
 
 -- ---- what is changed

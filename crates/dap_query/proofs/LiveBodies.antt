@@ -154,11 +154,11 @@ value-live refs value ns h (Some command.Evaluate) =
 value-live refs value ns h (Some command.SetVariable) =
     subst (λ (xs : List ℕ). AreLive refs (map holder xs)) (sym (bodies_give_their_numbers.evaluate value.value (number_in ns) value.more)) (value-one refs value ns h)
 value-live refs value ns h (Some command.StackTrace) =
-    subst (λ (xs : List ℕ). AreLive refs (map frame xs)) (sym (bodies_give_their_numbers.evaluate_alone value.value (number_in ns) value.more).0) tt
+    subst (λ (xs : List ℕ). AreLive refs (map frame xs)) (sym (bodies_give_their_numbers.evaluate_elsewhere value.value (number_in ns) value.more).0) tt
 value-live refs value ns h (Some command.Scopes) =
-    subst (λ (xs : List ℕ). AreLive refs (map holder xs)) (sym (bodies_give_their_numbers.evaluate_alone value.value (number_in ns) value.more).1) tt
+    subst (λ (xs : List ℕ). AreLive refs (map holder xs)) (sym (bodies_give_their_numbers.evaluate_elsewhere value.value (number_in ns) value.more).1) tt
 value-live refs value ns h (Some command.Variables) =
-    subst (λ (xs : List ℕ). AreLive refs (map holder xs)) (sym (bodies_give_their_numbers.evaluate_alone value.value (number_in ns) value.more).2) tt
+    subst (λ (xs : List ℕ). AreLive refs (map holder xs)) (sym (bodies_give_their_numbers.evaluate_elsewhere value.value (number_in ns) value.more).2) tt
 value-live refs value ns h (Some _) = tt
 
 -- ---- bodies of queries that give nothing

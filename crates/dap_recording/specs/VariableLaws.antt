@@ -39,11 +39,6 @@ variables-of_others holder h xs (c ∷ changed) other = else-by (nat_lt holder c
 same_some : {A : Type 0} (x y : A) → Some x ≡ Some y → x ≡ y
 same_some x y e = cc
 
--- where something is said of a variable that is there, it is this
-said-is : (o : Option Variable) (text : List ℕ) (said : Option (List Member)) (a : Assigned) → option_map (assigned_to text said) o ≡ Some a → (x : Variable) × (o ≡ Some x) × (assigned_to text said x ≡ a)
-said-is None text said a e = absurd (cc e)
-said-is (Some x) text said a e = (x, refl, same_some (assigned_to text said x) a e)
-
 pub named-in : (o : Option (List Variable)) (name text : List ℕ) (said : Option (List Member)) (a : Assigned) → assigned_of name text said o ≡ Some a → (xs : List Variable) × (o ≡ Some xs)
 named-in None name text said a e = absurd (cc e)
 named-in (Some xs) name text said a e = (xs, refl)

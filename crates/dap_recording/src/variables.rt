@@ -2,9 +2,9 @@
 ghost use Rattle.std.specs.Prelude.{◌≡◌, IfOk, option_map};
 ghost use Rattle.dap_debuggee.specs.Laws.{variable_named, with_assigned as with_assigned_in};
 ghost use Rattle.dap_debuggee.specs.Shown.{window as window_of};
-ghost use Rattle.dap_recording.specs.Variables.{assigned_to as assigned_to_value};
+ghost use Rattle.dap_recording.specs.Variables.{assigned_to as assigned_to_value, evaluation as evaluation_of};
 
-use dap_debuggee::{Assigned, Variable};
+use dap_debuggee::{Assigned, Evaluation, Variable};
 use dap_json::{More, Text};
 use std::alloc::{AllocError, Global};
 use std::collections::BTreeMap;
@@ -48,6 +48,17 @@ pub fn copied(alloc: Global, variables: &[Variable]) -> Result<Vec<Variable>, Al
         })?;
     }
     Ok(copy)
+}
+
+/// What a text comes to that comes to a variable.
+pub fn evaluation(variable: &Variable) -> Result<Evaluation, AllocError>
+    ensures { IfOk result (λ value. value ≡ evaluation_of variable.now) }
+{
+    Ok(Evaluation {
+        value: variable.value.clone()?,
+        holder: variable.holder,
+        more: variable.more.clone()?,
+    })
 }
 
 /// A variable's value, once it is this one. What is said beside it stays, unless this is said.

@@ -145,11 +145,7 @@ impl Recorded {
         };
         match self.value_in(name, scopes) {
             None => Err(DebuggeeFault::Refused),
-            Some(variable) => Ok(Evaluation {
-                value: variable.value.clone()?,
-                holder: variable.holder,
-                more: variable.more.clone()?,
-            }),
+            Some(variable) => Ok(variables::evaluation(variable)?),
         }
     }
 
