@@ -71,13 +71,13 @@ abbrev one : List ℕ → List Variable
 one value = record { name = codes "x"; value = value; holder = None; more = [] } ∷ []
 
 abbrev source : RecordedSource
-source = record { name = codes "a"; path = None; text = codes "x"; on_disk = false; lines = 1 }
+source = record { name = codes "a"; path = None; text = codes "x"; on_disk = false; lines = 1; more = [] }
 
 -- with these holders of scopes that came without their variables
 abbrev moment_with : List ℕ → MomentAlone
 moment_with untold = record {
   moment = record {
-    threads = record { id = pos 1; name = codes "main"; frames = record { object = 0; name = codes "f"; source = Some 0; line = 1; more = [] } ∷ [] } ∷ [];
+    threads = record { id = pos 1; name = codes "main"; frames = record { object = 0; name = codes "f"; source = Some 0; line = 1; more = [] } ∷ []; more = [] } ∷ [];
     thread = 0;
     output = [];
     waits = false;
@@ -214,7 +214,7 @@ too_wide = (refl, refl, refl)
 -- ---- sources that come later
 
 abbrev with_more : LiveState
-with_more = fresh_live (source ∷ record { name = codes "b"; path = Some (codes "/b"); text = codes "y\nz"; on_disk = true; lines = 2 } ∷ [])
+with_more = fresh_live (source ∷ record { name = codes "b"; path = Some (codes "/b"); text = codes "y\nz"; on_disk = true; lines = 2; more = [] } ∷ [])
 
 places : ((shown_live with_more).content 1 ≡ Some (codes "y\nz")) × ((shown_live with_more).content 2 ≡ None) × ((shown_live with_more).verify (Reference 2) (2 ∷ 3 ∷ []) ≡ Some (true ∷ false ∷ [])) × ((shown_live with_more).verify (Path (codes "/b")) (2 ∷ []) ≡ Some (true ∷ [])) × ((shown_live (fresh_live (source ∷ []))).verify (Reference 2) (1 ∷ []) ≡ Some (false ∷ []))
 places = (refl, refl, refl, refl, refl)

@@ -195,8 +195,9 @@ thread_numbers n by sources earlier d s r e p =
     with_ok (text_at key.Name d) _ r e1 (λ name named e2.
     with_ok (some_items key.Frames d) _ r e2 (λ given some e3.
     with_ok (each key.Frames (λ earlier. frame_of by sources) given [] s) _ r e3 (λ frames read e4.
-    subst (λ (x : RecordedThread × Numbered). NumbersAll n x.1) (ok_same (record { id = id; name = name; frames = frames.0 }, frames.1) r e4)
-    (each_holds key.Frames (λ earlier. frame_of by sources) (λ x. NumbersAll n x.1) (λ found t x next is q. frame_numbers n by sources x t next is q) given [] s frames read p)))))
+    with_ok (more_at d) _ r e4 (λ said told e5.
+    subst (λ (x : RecordedThread × Numbered). NumbersAll n x.1) (ok_same (record { id = id; name = name; frames = frames.0; more = said }, frames.1) r e5)
+    (each_holds key.Frames (λ earlier. frame_of by sources) (λ x. NumbersAll n x.1) (λ found t x next is q. frame_numbers n by sources x t next is q) given [] s frames read p))))))
 
 moment_numbers : (n : ℕ) (by : Teller) (sources : List RecordedSource) (d : Data) (s : Numbered) (r : Moment × Numbered) → moment_of by sources d s ≡ Ok r → NumbersAll n s → NumbersAll n r.1
 unfolding moment_of

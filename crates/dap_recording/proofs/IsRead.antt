@@ -13,6 +13,7 @@ use Rattle.dap_json.specs.Field.{if_passes, is_object}
 use Rattle.dap_json.specs.Steps.{◌>>=◌}
 use Rattle.dap_command.specs.Numbers.{is_int, int_of, number_of}
 use Rattle.dap_debuggee.specs.Laws.{is_place, is_frame}
+use Rattle.dap_json.specs.declared.more.Member.{Member}
 use Rattle.dap_recording.specs.Places.{Read, other_than, value_at, or_here, present_at, due_at, any_in, optional_at, in_element}
 use Rattle.dap_recording.specs.Reading.{or_fault, verdict_of, text_at, text_if_any, optional_text_at, short_text_at, flag_at, items_at, items_if_any, more_at, some_items, few_items, exit_at, source_at, line_at, new_id_at, thread_place_at, line_of, source_place, lines_at, short_text, frame_source, frame_line, untold_of, stop_with, stop_of, none_numbered, place_of, new_id, thread_place, Numbered, each, each_source, source_rows, scopes_of, frame_of, thread_of, moment_of, moments_of, source_of, sources_at, recording_of, numbered_alone}
 use Rattle.dap_recording.specs.AloneLaw.{RecordingsAreFiles}
@@ -214,10 +215,10 @@ new_id_is found d id e =
     let q = passes_is is_int (option_and_then as_i64 (as_number v.0)) id p.0 in
     (q.1, not_true (is_some (place_of id found)) p.1)
 
-thread_added : (sources : ℕ) (found : List RecordedThread) (s : Numbered) (id : ℤ) (name : List ℕ) (r : List Frame × Numbered) → is_int id ≡ true → is_some (place_of id found) ≡ false → 0 < length r.0 → FramesHold sources (objects_of found) r
-    → ThreadsHold sources (found, s) → ThreadsHold sources (found ++ record { id = id; name = name; frames = r.0 } ∷ [], r.1)
-thread_added sources found s id name r int new some frames p =
-    let thread : RecordedThread = record { id = id; name = name; frames = r.0 } in
+thread_added : (sources : ℕ) (found : List RecordedThread) (s : Numbered) (id : ℤ) (name : List ℕ) (r : List Frame × Numbered) (said : List Member) → is_int id ≡ true → is_some (place_of id found) ≡ false → 0 < length r.0 → FramesHold sources (objects_of found) r
+    → ThreadsHold sources (found, s) → ThreadsHold sources (found ++ record { id = id; name = name; frames = r.0; more = said } ∷ [], r.1)
+thread_added sources found s id name r said int new some frames p =
+    let thread : RecordedThread = record { id = id; name = name; frames = r.0; more = said } in
     let list : objects_of found ++ numbers_of r.0 ≡ objects_of (found ++ thread ∷ []) =
     sym (flat_map-append (λ (t : RecordedThread). map (λ (f : Frame). f.object) t.frames) found (thread ∷ []) ∙ ap (λ ns. objects_of found ++ ns) (append-nil (numbers_of r.0))) in
     record {
@@ -234,13 +235,14 @@ thread_holds by sources found s d next e p =
     with_ok (text_at key.Name d) _ next e1 (λ name named e2.
     with_ok (some_items key.Frames d) _ next e2 (λ given some e3.
     with_ok (each key.Frames (λ earlier. frame_of by sources) given [] s) _ next e3 (λ frames read e4.
+    with_ok (more_at d) _ next e4 (λ said told e5.
     let is_new = new_id_is found d id new in
     let count = each_count key.Frames (λ earlier. frame_of by sources) given [] s frames read in
     let least = some_count key.Frames d given some in
     let first : FramesHold (length sources) (objects_of found) ([], s) = record { frames = refl; numbers = subst (Rises (length s.scopes)) (sym (append-nil (objects_of found))) p.numbers } in
     let held = each_holds key.Frames (λ earlier. frame_of by sources) (FramesHold (length sources) (objects_of found)) (frame_holds by sources (objects_of found)) given [] s frames read first in
-    subst (λ n. ThreadsHold (length sources) (found ++ n.0 ∷ [], n.1)) (ok_same (record { id = id; name = name; frames = frames.0 }, frames.1) next e4)
-    (thread_added (length sources) found s id name frames is_new.0 is_new.1 (omega (arith, count, least)) held p)))))
+    subst (λ n. ThreadsHold (length sources) (found ++ n.0 ∷ [], n.1)) (ok_same (record { id = id; name = name; frames = frames.0; more = said }, frames.1) next e5)
+    (thread_added (length sources) found s id name frames said is_new.0 is_new.1 (omega (arith, count, least)) held p))))))
 
 -- ---- moments
 
@@ -317,7 +319,8 @@ source_holds d source e =
     with_ok (optional_text_at key.Path d) _ source e1 (λ path at e2.
     with_ok (text_at key.Text d) _ source e2 (λ text is e3.
     with_ok (flag_at key.OnDisk d) _ source e3 (λ on_disk on e4.
-    subst (λ x. is_counted x ≡ true) (ok_same (record { name = name; path = path; text = text; on_disk = on_disk; lines = line_count text }) source e4) (eq-eqb (line_count text) (line_count text) refl)))))
+    with_ok (more_at d) _ source e4 (λ said told e5.
+    subst (λ x. is_counted x ≡ true) (ok_same (record { name = name; path = path; text = text; on_disk = on_disk; lines = line_count text; more = said }) source e5) (eq-eqb (line_count text) (line_count text) refl))))))
 
 sources_hold : (ds : Items) (found all : List RecordedSource) → each_source ds found ≡ Ok all → list_all is_counted found ≡ true → (list_all is_counted all ≡ true) × (length all ≡ length found + items_len ds)
 sources_hold no_items found all e p =

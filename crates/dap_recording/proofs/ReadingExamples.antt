@@ -107,14 +107,24 @@ no_exits = (refl, refl, refl, refl)
 abbrev source_with : Members → Data
 source_with ms = object (put (codes "name") (text (codes "b")) ms)
 
-path_may_be_absent : source_of (source_with (put (codes "text") (text (codes "x")) no_members)) ≡ Ok (record { name = codes "b"; path = None; text = codes "x"; on_disk = false; lines = 1 })
+path_may_be_absent : source_of (source_with (put (codes "text") (text (codes "x")) no_members)) ≡ Ok (record { name = codes "b"; path = None; text = codes "x"; on_disk = false; lines = 1; more = [] })
 unfolding recording_of source_of moments_of moment_of thread_of frame_of scopes_of scope_of stop_of
 path_may_be_absent = refl
 
 -- a file that the client reads itself
-file_on_disk : source_of (source_with (put (codes "onDisk") (boolean true) (put (codes "path") (text (codes "/b")) (put (codes "text") (text (codes "x")) no_members)))) ≡ Ok (record { name = codes "b"; path = Some (codes "/b"); text = codes "x"; on_disk = true; lines = 1 })
+file_on_disk : source_of (source_with (put (codes "onDisk") (boolean true) (put (codes "path") (text (codes "/b")) (put (codes "text") (text (codes "x")) no_members)))) ≡ Ok (record { name = codes "b"; path = Some (codes "/b"); text = codes "x"; on_disk = true; lines = 1; more = [] })
 unfolding recording_of source_of moments_of moment_of thread_of frame_of scopes_of scope_of stop_of
 file_on_disk = refl
+
+-- what stands beside is read last, and null is bad there
+source_beside : (more : List Member) → more ≡ record { key = codes "origin"; value = text (codes "x") } ∷ []
+    → source_of (source_with (put (codes "text") (text (codes "x")) (put (codes "more") (object (put (codes "origin") (text (codes "x")) no_members)) no_members))) ≡ Ok (record { name = codes "b"; path = None; text = codes "x"; on_disk = false; lines = 1; more = more })
+unfolding recording_of source_of moments_of moment_of thread_of frame_of scopes_of scope_of stop_of
+source_beside more same = ap (λ ms. Ok (record { name = codes "b"; path = None; text = codes "x"; on_disk = false; lines = 1; more = ms })) (sym same)
+
+source_more_comes_last : (keyed (source_of (source_with (put (codes "more") null (put (codes "onDisk") null (put (codes "text") (text (codes "x")) no_members))))) ≡ Err key.OnDisk) × (keyed (source_of (source_with (put (codes "more") null (put (codes "text") (text (codes "x")) no_members)))) ≡ Err key.More)
+unfolding recording_of source_of moments_of moment_of thread_of frame_of scopes_of scope_of stop_of
+source_more_comes_last = (refl, refl)
 
 -- it is read after the text, and null is bad there
 on_disk_comes_last : (keyed (source_of (source_with (put (codes "onDisk") null (put (codes "text") (text (codes "x")) no_members)))) ≡ Err key.OnDisk) × (keyed (source_of (source_with (put (codes "onDisk") null no_members))) ≡ Err key.Text)
@@ -230,7 +240,7 @@ described_alone = (refl, refl, refl, refl)
 -- ---- frames that a host tells
 
 abbrev sources_a : List RecordedSource
-sources_a = record { name = codes "a.c"; path = None; text = codes "one\n"; on_disk = false; lines = 1 } ∷ []
+sources_a = record { name = codes "a.c"; path = None; text = codes "one\n"; on_disk = false; lines = 1; more = [] } ∷ []
 
 abbrev told_by : Teller → Members → Read (Frame × Numbered)
 told_by by ms = frame_of by sources_a (object (put (codes "name") (text (codes "f")) ms)) none_numbered
@@ -293,6 +303,6 @@ unfolding sources_at source_of
 files = (refl, refl, refl, refl, refl, refl)
 
 -- a source needs no line
-empty_source : file_sources (Some (file (one (object (put (codes "name") (text (codes "a")) (put (codes "text") (text []) no_members)))))) ≡ Ok (record { name = codes "a"; path = None; text = []; on_disk = false; lines = 0 } ∷ [])
+empty_source : file_sources (Some (file (one (object (put (codes "name") (text (codes "a")) (put (codes "text") (text []) no_members)))))) ≡ Ok (record { name = codes "a"; path = None; text = []; on_disk = false; lines = 0; more = [] } ∷ [])
 unfolding sources_at source_of
 empty_source = refl

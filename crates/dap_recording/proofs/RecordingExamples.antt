@@ -21,7 +21,7 @@ rising : (is_rising [] ≡ true) × (is_rising (0 ∷ 1 ∷ 5 ∷ []) ≡ true) 
 rising = (refl, refl, refl, refl)
 
 abbrev thread : ℕ → List Frame → RecordedThread
-thread id frames = record { id = pos id; name = codes "t"; frames = frames }
+thread id frames = record { id = pos id; name = codes "t"; frames = frames; more = [] }
 
 distinct : (are_distinct (thread 1 [] ∷ thread 2 [] ∷ []) ≡ true) × (are_distinct (thread 1 [] ∷ thread 2 [] ∷ thread 1 [] ∷ []) ≡ false)
 distinct = (refl, refl)

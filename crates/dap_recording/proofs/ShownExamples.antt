@@ -9,7 +9,7 @@ use Rattle.dap_recording.specs.declared.recording.RecordedSource.{RecordedSource
 -- ---- two sources of one path
 
 abbrev source : List ℕ → ℕ → RecordedSource
-source text lines = record { name = codes "a"; path = Some (codes "/a"); text = text; on_disk = false; lines = lines }
+source text lines = record { name = codes "a"; path = Some (codes "/a"); text = text; on_disk = false; lines = lines; more = [] }
 
 abbrev two : List RecordedSource
 two = source (codes "x\ny") 2 ∷ source (codes "z") 1 ∷ []
@@ -26,7 +26,7 @@ lines = (refl, refl, refl, refl, refl)
 abbrev alone : MomentAlone
 alone = record {
   moment = record {
-    threads = record { id = pos 1; name = codes "main"; frames = record { object = 0; name = codes "f"; source = Some 0; line = 1; more = [] } ∷ [] } ∷ [];
+    threads = record { id = pos 1; name = codes "main"; frames = record { object = 0; name = codes "f"; source = Some 0; line = 1; more = [] } ∷ []; more = [] } ∷ [];
     thread = 0;
     output = [];
     waits = false;

@@ -304,14 +304,15 @@ thread_read base by sources found s d next e p =
     with_ok (text_at key.Name d) _ next e1 (λ name named e2.
     with_ok (some_items key.Frames d) _ next e2 (λ given some e3.
     with_ok (each key.Frames (λ earlier. frame_of by sources) given [] s) _ next e3 (λ frames read e4.
+    with_ok (more_at d) _ next e4 (λ said told e5.
     let first : FramesRead base s ([], s) = record { since = p.since; frames = at_none (λ i f. Between (length base.scopes) (length s.scopes) f.object); longer = omega arith } in
     let all = each_holds key.Frames (λ earlier. frame_of by sources) (FramesRead base s) (λ fs t x n is q. frame_read base s by sources fs t x n is q) given [] s frames read first in
-    let thread : RecordedThread = record { id = id; name = name; frames = frames.0 } in
-    subst (λ (x : RecordedThread × Numbered). ThreadsRead base (found ++ x.0 ∷ [], x.1)) (ok_same (thread, frames.1) next e4)
+    let thread : RecordedThread = record { id = id; name = name; frames = frames.0; more = said } in
+    subst (λ (x : RecordedThread × Numbered). ThreadsRead base (found ++ x.0 ∷ [], x.1)) (ok_same (thread, frames.1) next e5)
     (record {
       since = all.since;
       threads = at_each_more (λ t th. OfFrames (length base.scopes) (length frames.1.scopes) th.frames) found thread (of_threads_more (length base.scopes) (length s.scopes) (length frames.1.scopes) found all.longer p.threads) all.frames;
-    })))))
+    }))))))
 
 -- ---- moments
 

@@ -248,7 +248,8 @@ thread_of by sources earlier d numbered = do
   name ← text_at key.Name d
   given ← some_items key.Frames d
   frames ← each key.Frames (λ earlier. frame_of by sources) given [] numbered
-  Ok (record { id = id; name = name; frames = frames.0 }, frames.1)
+  said ← more_at d
+  Ok (record { id = id; name = name; frames = frames.0; more = said }, frames.1)
 
 -- ---- the whole
 
@@ -283,7 +284,8 @@ source_of d = do
   path ← optional_text_at key.Path d
   text ← text_at key.Text d
   on_disk ← flag_at key.OnDisk d
-  Ok (record { name = name; path = path; text = text; on_disk = on_disk; lines = line_count text })
+  said ← more_at d
+  Ok (record { name = name; path = path; text = text; on_disk = on_disk; lines = line_count text; more = said })
 
 abbrev pub each_source : Items → List RecordedSource → Read (List RecordedSource)
 each_source no_items found = Ok found

@@ -42,7 +42,7 @@ alone_in r m = record { moment = m; scopes = r.scopes; variables = r.variables; 
 -- ---- what is shown
 
 abbrev pub thread_shown : RecordedThread → Thread
-thread_shown thread = record { id = thread.id; name = thread.name; more = [] }
+thread_shown thread = record { id = thread.id; name = thread.name; more = thread.more }
 
 abbrev pub thread_with : ℤ → List RecordedThread → Option RecordedThread
 thread_with id threads = find (λ thread. int_eq id thread.id) threads

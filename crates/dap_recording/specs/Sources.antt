@@ -7,7 +7,7 @@ use Rattle.dap_debuggee.specs.declared.answers.Source.{Source}
 use Rattle.dap_recording.specs.declared.recording.RecordedSource.{RecordedSource}
 
 abbrev pub source_shown : RecordedSource → Source
-source_shown source = record { name = source.name; path = source.path; on_disk = source.on_disk; more = [] }
+source_shown source = record { name = source.name; path = source.path; on_disk = source.on_disk; more = source.more }
 
 abbrev pub shown_at : List RecordedSource → ℕ → Option Source
 shown_at sources index = slice_get (map source_shown sources) index

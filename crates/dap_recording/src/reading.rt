@@ -38,7 +38,7 @@ pub enum RecordingKey {
     Waits,
     Stop,
     Description,
-    /// What stands beside a frame, a scope or a variable.
+    /// What stands beside a source, a thread, a frame, a scope or a variable.
     More,
 }
 

@@ -6,7 +6,7 @@ ghost use Rattle.std.specs.Prelude.{◌≡◌, IfOk};
 
 use crate::sources::Sources;
 use dap_debuggee::{Frame, Scope, Variable};
-use dap_json::{List, Text};
+use dap_json::{List, More, Text};
 use std::alloc::AllocError;
 
 #[derive(Debug, Drop)]
@@ -18,6 +18,8 @@ pub struct RecordedSource {
     pub on_disk: bool,
     /// How many lines the text has.
     pub lines: u64,
+    /// What is said beside it.
+    pub more: More,
 }
 
 #[derive(Debug, Drop)]
@@ -26,6 +28,8 @@ pub struct RecordedThread {
     pub name: Text,
     /// The newest first.
     pub frames: List<Frame>,
+    /// What is said beside it.
+    pub more: More,
 }
 
 /// Why a run stops at a moment that it would go by, in words: Specification, "StoppedEvent".
@@ -90,6 +94,7 @@ impl Clone for RecordedSource {
             text: self.text.clone()?,
             on_disk: self.on_disk,
             lines: self.lines,
+            more: self.more.clone()?,
         })
     }
 }

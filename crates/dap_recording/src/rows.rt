@@ -349,10 +349,12 @@ fn thread(
     let name = reading::text(texts, value, RecordingKey::Name)?;
     let items = reading::some_items(texts.alloc, value, RecordingKey::Frames)?;
     let frames = frames(texts, teller, sources, items, numbers)?;
+    let more = reading::more(texts, value)?;
     Ok(RecordedThread {
         id,
         name,
         frames: List::new(frames),
+        more,
     })
 }
 
@@ -468,6 +470,7 @@ fn source(texts: &mut Texts, value: &Value) -> Result<RecordedSource, Stop>
     let path = reading::optional_text(texts, value, RecordingKey::Path)?;
     let text = reading::text(texts, value, RecordingKey::Text)?;
     let on_disk = reading::flag(texts.alloc, value, RecordingKey::OnDisk)?;
+    let more = reading::more(texts, value)?;
     let lines = numbers::line_count(text.as_str());
     Ok(RecordedSource {
         name,
@@ -475,6 +478,7 @@ fn source(texts: &mut Texts, value: &Value) -> Result<RecordedSource, Stop>
         text,
         on_disk,
         lines,
+        more,
     })
 }
 

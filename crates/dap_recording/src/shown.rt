@@ -8,7 +8,7 @@ ghost use Rattle.dap_recording.specs.Snapshot.{frames_in, if_in, is_among, is_in
 
 use crate::recording::{RecordedThread, Span};
 use dap_debuggee::{DebuggeeFault, Frame, Scope, Thread};
-use dap_json::{List, More};
+use dap_json::List;
 use std::alloc::{AllocError, Global};
 
 /// The threads, each with its id and its name.
@@ -20,7 +20,7 @@ pub fn threads(alloc: Global, threads: &[RecordedThread]) -> Result<Vec<Thread>,
         shown.push(Thread {
             id: thread.id,
             name: thread.name.clone()?,
-            more: More::none(),
+            more: thread.more.clone()?,
         })?;
     }
     Ok(shown)

@@ -8,7 +8,7 @@ use crate::paths::Paths;
 use crate::recording::RecordedSource;
 use dap_command::SourceKey;
 use dap_debuggee::{DebuggeeFault, Source};
-use dap_json::{More, Text};
+use dap_json::Text;
 use std::alloc::{AllocError, Global};
 use std::marker::Model;
 use std::sync::Arc;
@@ -202,7 +202,7 @@ fn source_copied(source: &RecordedSource) -> Result<Source, AllocError>
         name: source.name.clone()?,
         path: copied_path(&source.path)?,
         on_disk: source.on_disk,
-        more: More::none(),
+        more: source.more.clone()?,
     })
 }
 

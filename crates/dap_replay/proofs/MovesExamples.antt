@@ -22,7 +22,7 @@ frame line = record { object = 0; name = codes "f"; source = Some 0; line = line
 
 -- the lines of its frames, the newest first
 abbrev moment : Bool → List ℕ → Moment
-moment waits lines = record { threads = record { id = pos 1; name = codes "main"; frames = map frame lines } ∷ []; thread = 0; output = []; waits = waits; stop = None; frames = record { from = 0; to = 0 }; holders = record { from = 0; to = 0 } }
+moment waits lines = record { threads = record { id = pos 1; name = codes "main"; frames = map frame lines; more = [] } ∷ []; thread = 0; output = []; waits = waits; stop = None; frames = record { from = 0; to = 0 }; holders = record { from = 0; to = 0 } }
 
 abbrev moments : List Moment
 moments =
@@ -35,7 +35,7 @@ moments =
     ∷ []
 
 abbrev sources : List RecordedSource
-sources = record { name = codes "a.c"; path = Some (codes "/a.c"); text = codes "\n\n\n\n\n\n\n\n\n"; on_disk = false; lines = 9 } ∷ []
+sources = record { name = codes "a.c"; path = Some (codes "/a.c"); text = codes "\n\n\n\n\n\n\n\n\n"; on_disk = false; lines = 9; more = [] } ∷ []
 
 abbrev move : List (OfSource ℕ) → How → ℕ → Move
 move set how i = move_of sources moments (lines_in set) how i
@@ -102,7 +102,7 @@ reverse_to_the_first = (refl, refl, refl)
 
 -- its second thread stands there, two frames deep
 abbrev two_threads : Moment
-two_threads = record { threads = record { id = pos 7; name = codes "a"; frames = map frame (1 ∷ []) } ∷ record { id = pos 9; name = codes "b"; frames = map frame (4 ∷ 3 ∷ []) } ∷ []; thread = 1; output = []; waits = false; stop = None; frames = record { from = 0; to = 0 }; holders = record { from = 0; to = 0 } }
+two_threads = record { threads = record { id = pos 7; name = codes "a"; frames = map frame (1 ∷ []); more = [] } ∷ record { id = pos 9; name = codes "b"; frames = map frame (4 ∷ 3 ∷ []); more = [] } ∷ []; thread = 1; output = []; waits = false; stop = None; frames = record { from = 0; to = 0 }; holders = record { from = 0; to = 0 } }
 
 of_two_threads : (move_of sources (two_threads ∷ moment false (1 ∷ 1 ∷ []) ∷ []) (lines_in []) Next 0 ≡ to 1 Step) × (move_of sources (moment false (1 ∷ []) ∷ two_threads ∷ []) (lines_in []) Next 0 ≡ to 2 Step) × (move_of sources (moment false (1 ∷ []) ∷ two_threads ∷ []) (lines_in (by_path (4 ∷ []))) Continue 0 ≡ to 1 Breakpoint) × (move_of sources (moment false (1 ∷ []) ∷ two_threads ∷ []) (lines_in (by_path (1 ∷ []))) Continue 0 ≡ to 2 Breakpoint)
 of_two_threads = (refl, refl, refl, refl)
@@ -110,17 +110,17 @@ of_two_threads = (refl, refl, refl, refl)
 -- ---- two sources of one path
 
 abbrev in_second : Moment
-in_second = record { threads = record { id = pos 1; name = codes "main"; frames = record { object = 0; name = codes "f"; source = Some 1; line = 4; more = [] } ∷ [] } ∷ []; thread = 0; output = []; waits = false; stop = None; frames = record { from = 0; to = 0 }; holders = record { from = 0; to = 0 } }
+in_second = record { threads = record { id = pos 1; name = codes "main"; frames = record { object = 0; name = codes "f"; source = Some 1; line = 4; more = [] } ∷ []; more = [] } ∷ []; thread = 0; output = []; waits = false; stop = None; frames = record { from = 0; to = 0 }; holders = record { from = 0; to = 0 } }
 
 abbrev from_first : List (OfSource ℕ) → Move
-from_first set = move_of (record { name = codes "a"; path = Some (codes "/a.c"); text = codes "\n\n\n"; on_disk = false; lines = 3 } ∷ record { name = codes "b"; path = Some (codes "/a.c"); text = codes "\n\n\n\n"; on_disk = false; lines = 4 } ∷ []) (moment false (1 ∷ []) ∷ in_second ∷ []) (lines_in set) Continue 0
+from_first set = move_of (record { name = codes "a"; path = Some (codes "/a.c"); text = codes "\n\n\n"; on_disk = false; lines = 3; more = [] } ∷ record { name = codes "b"; path = Some (codes "/a.c"); text = codes "\n\n\n\n"; on_disk = false; lines = 4; more = [] } ∷ []) (moment false (1 ∷ []) ∷ in_second ∷ []) (lines_in set) Continue 0
 
 -- by their path both stop, by its number the second alone
 of_two_sources : (from_first (by_path (4 ∷ [])) ≡ to 1 Breakpoint) × (from_first (by_number 2 (4 ∷ [])) ≡ to 1 Breakpoint) × (from_first (by_number 1 (4 ∷ [])) ≡ to 2 Breakpoint)
 of_two_sources = (refl, refl, refl)
 
 abbrev unnamed : List (OfSource ℕ) → Move
-unnamed set = move_of (record { name = codes "a"; path = None; text = codes "\n"; on_disk = false; lines = 1 } ∷ []) (moment false (1 ∷ []) ∷ moment false (1 ∷ []) ∷ []) (lines_in set) Continue 0
+unnamed set = move_of (record { name = codes "a"; path = None; text = codes "\n"; on_disk = false; lines = 1; more = [] } ∷ []) (moment false (1 ∷ []) ∷ moment false (1 ∷ []) ∷ []) (lines_in set) Continue 0
 
 without_a_path : (unnamed (by_number 1 (1 ∷ [])) ≡ to 1 Breakpoint) × (unnamed (by_path (1 ∷ [])) ≡ to 2 Breakpoint) × (unnamed (record { source = Path []; set = 1 ∷ [] } ∷ []) ≡ to 2 Breakpoint)
 without_a_path = (refl, refl, refl)
@@ -192,7 +192,7 @@ stop_while_held = refl
 -- ---- a frame without a source stands at no line
 
 abbrev without_a_source : Moment
-without_a_source = record { threads = record { id = pos 1; name = codes "main"; frames = record { object = 0; name = codes "f"; source = None; line = 0; more = [] } ∷ [] } ∷ []; thread = 0; output = []; waits = false; stop = None; frames = record { from = 0; to = 0 }; holders = record { from = 0; to = 0 } }
+without_a_source = record { threads = record { id = pos 1; name = codes "main"; frames = record { object = 0; name = codes "f"; source = None; line = 0; more = [] } ∷ []; more = [] } ∷ []; thread = 0; output = []; waits = false; stop = None; frames = record { from = 0; to = 0 }; holders = record { from = 0; to = 0 } }
 
 at_no_line : (is_at_breakpoint (lines_in (by_path (0 ∷ 1 ∷ []))) sources without_a_source ≡ false) × (is_at_breakpoint (lines_in (by_number 0 (0 ∷ []))) sources without_a_source ≡ false) × (is_at_breakpoint (lines_in (by_number 1 (0 ∷ []))) sources without_a_source ≡ false)
 at_no_line = (refl, refl, refl)

@@ -174,7 +174,7 @@ abbrev with_moments : List Moment → Played
 with_moments moments = fresh_played (record { exit = pos 3; sources = three_moments.sources; moments = moments; scopes = []; variables = []; untold = [] })
 
 abbrev writing : Bool → List ℕ → Moment
-writing waits output = record { threads = record { id = pos 1; name = codes "main"; frames = record { object = 0; name = codes "main"; source = Some 0; line = 1; more = [] } ∷ [] } ∷ []; thread = 0; output = output; waits = waits; stop = None; frames = record { from = 0; to = 0 }; holders = record { from = 0; to = 0 } }
+writing waits output = record { threads = record { id = pos 1; name = codes "main"; frames = record { object = 0; name = codes "main"; source = Some 0; line = 1; more = [] } ∷ []; more = [] } ∷ []; thread = 0; output = output; waits = waits; stop = None; frames = record { from = 0; to = 0 }; holders = record { from = 0; to = 0 } }
 
 -- a run writes up to the moment that holds it, and the next one the rest
 output_before_a_hold : replies (view_after (with_moments (writing false [] ∷ writing true (codes "a") ∷ writing false (codes "b") ∷ writing false [] ∷ writing false (codes "c") ∷ [])) (to_start ∷ to_poll ∷ []))
@@ -274,7 +274,7 @@ kept_behind : with_variables 3 [] (record { holder = 2; variables = [] } ∷ [])
 kept_behind = refl
 
 abbrev named : ℕ → RecordedSource
-named lines = record { name = codes "a.c"; path = Some (codes "/a.c"); text = replicate lines 10; on_disk = false; lines = lines }
+named lines = record { name = codes "a.c"; path = Some (codes "/a.c"); text = replicate lines 10; on_disk = false; lines = lines; more = [] }
 
 abbrev one_path : Played
 one_path = fresh_played (record { exit = pos 0; sources = named 3 ∷ named 5 ∷ []; moments = three_moments.moments; scopes = []; variables = []; untold = [] })

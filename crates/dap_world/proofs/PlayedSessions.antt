@@ -22,11 +22,11 @@ use Rattle.dap_plan.specs.Taking.{takes}
 abbrev pub recording_a : Recording
 recording_a = record {
   exit = pos 0;
-  sources = record { name = codes "a.c"; path = Some (codes "/a.c"); text = codes "one\ntwo\nthree\n"; on_disk = false; lines = 3 } ∷ [];
+  sources = record { name = codes "a.c"; path = Some (codes "/a.c"); text = codes "one\ntwo\nthree\n"; on_disk = false; lines = 3; more = [] } ∷ [];
   moments =
-      record { threads = record { id = pos 1; name = codes "main"; frames = record { object = 0; name = codes "main"; source = Some 0; line = 1; more = [] } ∷ [] } ∷ []; thread = 0; output = codes "go\n"; waits = false; stop = None; frames = record { from = 0; to = 1 }; holders = record { from = 0; to = 2 } }
-      ∷ record { threads = record { id = pos 1; name = codes "main"; frames = record { object = 1; name = codes "f"; source = Some 0; line = 3; more = [] } ∷ record { object = 2; name = codes "main"; source = Some 0; line = 1; more = [] } ∷ [] } ∷ []; thread = 0; output = []; waits = false; stop = None; frames = record { from = 1; to = 3 }; holders = record { from = 2; to = 2 } }
-      ∷ record { threads = record { id = pos 1; name = codes "main"; frames = record { object = 3; name = codes "main"; source = Some 0; line = 2; more = [] } ∷ [] } ∷ []; thread = 0; output = []; waits = true; stop = None; frames = record { from = 3; to = 4 }; holders = record { from = 2; to = 2 } }
+      record { threads = record { id = pos 1; name = codes "main"; frames = record { object = 0; name = codes "main"; source = Some 0; line = 1; more = [] } ∷ []; more = [] } ∷ []; thread = 0; output = codes "go\n"; waits = false; stop = None; frames = record { from = 0; to = 1 }; holders = record { from = 0; to = 2 } }
+      ∷ record { threads = record { id = pos 1; name = codes "main"; frames = record { object = 1; name = codes "f"; source = Some 0; line = 3; more = [] } ∷ record { object = 2; name = codes "main"; source = Some 0; line = 1; more = [] } ∷ []; more = [] } ∷ []; thread = 0; output = []; waits = false; stop = None; frames = record { from = 1; to = 3 }; holders = record { from = 2; to = 2 } }
+      ∷ record { threads = record { id = pos 1; name = codes "main"; frames = record { object = 3; name = codes "main"; source = Some 0; line = 2; more = [] } ∷ []; more = [] } ∷ []; thread = 0; output = []; waits = true; stop = None; frames = record { from = 3; to = 4 }; holders = record { from = 2; to = 2 } }
       ∷ [];
   scopes = (record { name = codes "Locals"; holder = 1; more = [] } ∷ []) ∷ [] ∷ [] ∷ [] ∷ [];
   variables =
