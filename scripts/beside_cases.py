@@ -1,4 +1,4 @@
-"""A group of scripts/try-program: what a recording tells beside its frames, scopes and variables, by `more`.
+"""A group of scripts/try-program: what a recording tells beside its sources, threads, frames, scopes and variables, by `more`.
 
 Recordings and rows are written out by hand, from "Keys" of docs/RECORDINGS.md and "Bodies of responses and events" of
 docs/PROFILE.md.
@@ -16,7 +16,11 @@ OF_PAIR = {"type": "pair", "presentationHint": {"lazy": False, "attributes": ["r
 AS_REFERENCES = {"scopes": [], "stackFrames": 0, "variables": [{"variablesReference": 7}]}
 
 
-def told(of_frame, of_scope, of_x, of_pair):
+OF_THREAD = {"state": "idle", "id": 9, "name": None}
+OF_SOURCE = {"origin": "made", "checksums": [{"algorithm": "MD5", "checksum": "0"}], "path": "/t.c", "sourceReference": 4}
+
+
+def told(of_frame, of_scope, of_x, of_pair, of_thread, of_source):
     """A moment at line 2, with `x`, and `p` of one part."""
     parts = [{"name": "a", "value": "7"}]
     variables = [
@@ -25,11 +29,13 @@ def told(of_frame, of_scope, of_x, of_pair):
     ]
     scopes = [{"name": "Locals", "variables": variables, "more": of_scope}]
     frame = {"name": "f", "source": 0, "line": 2, "scopes": scopes, "more": of_frame}
-    return recording({"threads": [{"id": 1, "name": "t", "frames": [frame]}], "thread": 1})
+    thread = {"id": 1, "name": "t", "frames": [frame], "more": of_thread}
+    whole = recording({"threads": [thread], "thread": 1})
+    return {**whole, "sources": [{**whole["sources"][0], "more": of_source}]}
 
 
 def sessions():
-    source = {"name": "s.c", "sourceReference": 1, **SOURCE}
+    source = {"origin": "made", "checksums": OF_SOURCE["checksums"], "name": "s.c", "sourceReference": 1, **SOURCE}
     frame = {"presentationHint": "label", "canRestart": False, "column": 1, "id": 1, "line": 2, "name": "f", "source": source}
     scope = {"presentationHint": "locals", "namedVariables": 2, "expensive": False, "name": "Locals", "variablesReference": 2}
     x = {"type": "int", "memoryReference": "0x1000", "name": "x", "value": "1", "variablesReference": 0}
@@ -37,6 +43,8 @@ def sessions():
     part = {"name": "a", "value": "7", "variablesReference": 0}
     rows("beside: each element", [
         *started(*ENTRY),
+        ("threads", {}, ok({"threads": [{"state": "idle", "id": 1, "name": "t"}]})),
+        ("loadedSources", {}, ok({"sources": [source]})),
         ("stackTrace", THREAD, ok({"stackFrames": [frame], "totalFrames": 1})),
         ("scopes", {"frameId": 1}, ok({"scopes": [scope]})),
         ("variables", number(2), ok({"variables": [x, {**AS_REFERENCES, **pair, "name": "p", "value": "(7)"}]})),
@@ -45,7 +53,7 @@ def sessions():
         ("evaluate", in_frame(1, "x"), ok({**OF_X, "result": "1", "variablesReference": 0})),
         ("setVariable", assigning(2, "x", "2"), ok({**OF_X, "value": "2"})),
         ("variables", number(2), ok({"variables": [{**x, "value": "2"}, {**AS_REFERENCES, **pair, "name": "p", "value": "(7)"}]})),
-    ], file_of("beside", told(OF_FRAME, OF_SCOPE, OF_X, {**OF_PAIR, **AS_REFERENCES})))
+    ], file_of("beside", told(OF_FRAME, OF_SCOPE, OF_X, {**OF_PAIR, **AS_REFERENCES}, OF_THREAD, OF_SOURCE)))
 
 
 def nested(depth):
@@ -66,9 +74,9 @@ def refusals():
         ("100 deep", nested(100), fine()),
         ("101 deep", nested(101), fault("BadKey")),
     ]:
-        for place in range(4):
-            given = [more if at == place else {} for at in range(4)]
-            where = ("frame", "scope", "variable", "variable with parts")[place]
+        for place in range(6):
+            given = [more if at == place else {} for at in range(6)]
+            where = ("frame", "scope", "variable", "variable with parts", "thread", "source")[place]
             try_rows([(f"beside: a {where} has {name}", ["serve", file_of("more", told(*given))], wanted)])
 
 
