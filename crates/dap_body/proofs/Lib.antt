@@ -3,6 +3,7 @@ pub mod Tokens
 pub mod Rows
 pub mod Among
 pub mod FitMembers
+mod BesideExamples
 mod OfParts
 pub mod PlainBodies
 pub mod GivenNumbers
