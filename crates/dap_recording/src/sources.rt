@@ -21,11 +21,15 @@ pub struct Sources {
 }
 
 impl Model for Sources {
+    ghost use Rattle.std.specs.Coded.{codes};
+    ghost use Rattle.dap_json.specs.Stored.{coded_data};
     ghost use Rattle.std.specs.Prelude.{◌≤◌, length, List as Items};
     ghost use Rattle.dap_recording.specs.PrivatePaths.{HasMost};
     ghost use Rattle.dap_recording.specs.declared.recording.RecordedSource.{RecordedSource};
 
     ghost Value = { Items RecordedSource };
+
+    ghost coded = { Prim.hlevel (codes, coded_data) };
 
     ghost view = { λ s. s.held.value.items };
 
