@@ -1,99 +1,47 @@
 //! The words of the command line.
 
 use clap::builder::ValueParser;
-use clap::{Arg, ArgAction, ArgMatches, Command};
-use dap_frame::{LimitFault, Limits};
+use crate::options::{EXPLAIN, LIMITS, MAX_LINE, name_of, unit_of};
+use clap::{Arg, ArgAction, Command};
+use dap_frame::LimitFault;
 use std::alloc::{AllocError, Global};
-
-/// The option that explains faults, and of `check` findings too.
-const EXPLAIN: &str = "explain";
-
-/// An option that sets a limit.
-struct LimitOption {
-    name: &'static str,
-    unit: &'static str,
-    meaning: &'static str,
-    limit: LimitFault,
-}
-
-static LIMIT_OPTIONS: [LimitOption; 7] = [
-    LimitOption {
-        name: "max-header",
-        unit: "BYTES",
-        meaning: "Greatest length of a header block",
-        limit: LimitFault::Header,
-    },
-    LimitOption {
-        name: "max-body",
-        unit: "BYTES",
-        meaning: "Greatest length of a body",
-        limit: LimitFault::Body,
-    },
-    LimitOption {
-        name: "max-requests",
-        unit: "COUNT",
-        meaning: "Requests kept unanswered at once",
-        limit: LimitFault::Requests,
-    },
-    LimitOption {
-        name: "max-references",
-        unit: "COUNT",
-        meaning: "Frames and variables referred to at once",
-        limit: LimitFault::References,
-    },
-    LimitOption {
-        name: "max-breakpoints",
-        unit: "COUNT",
-        meaning: "Breakpoints set at once",
-        limit: LimitFault::Breakpoints,
-    },
-    LimitOption {
-        name: "max-seq",
-        unit: "NUMBER",
-        meaning: "Greatest sequence number given",
-        limit: LimitFault::Seq,
-    },
-    LimitOption {
-        name: "max-reference",
-        unit: "NUMBER",
-        meaning: "Greatest number of a reference",
-        limit: LimitFault::Reference,
-    },
-];
-
-/// The option that bounds a line of a host, with its least and its greatest value, and the one where it is not given: a line has
-/// room for a message of a body of that size, and for the mark before it.
-const MAX_LINE: &str = "max-line";
 
 const LEAST_LINE: u64 = 1026;
 
 const GREATEST_LINE: u64 = 1073741826;
 
-const USUAL_LINE: u64 = 16777218;
+/// The limits of a reader of frames.
+static FRAME_LIMITS: [LimitFault; 2] = [LimitFault::Header, LimitFault::Body];
 
-/// What the help says of each option that sets a limit, in order.
-pub fn limit_texts(alloc: Global) -> Result<Vec<String>, AllocError> {
-    let usual = Limits::usual();
-    let mut texts = Vec::new(alloc);
-    for option in &LIMIT_OPTIONS {
-        let meaning = option.meaning;
-        let least = option.limit.least();
-        let greatest = option.limit.greatest();
-        let default = usual.get(option.limit);
-        texts.push(format!(in alloc; "{meaning}, {least} to {greatest} [default: {default}]")?)?;
+/// The option that sets the limit, to a number in its range.
+fn limit_option<'a>(alloc: Global, limit: LimitFault, help: Option<&'a String>) -> Arg<'a> {
+    let option = number_option(
+        alloc,
+        name_of(limit),
+        unit_of(limit),
+        limit.least(),
+        limit.greatest(),
+    );
+    match help {
+        Some(help) => option.help(help.as_str()),
+        None => option,
     }
-    Ok(texts)
 }
 
-/// The option, which takes a number in the limit's range.
-fn limit_option<'a>(alloc: Global, option: &LimitOption, help: &'a str) -> Arg<'a> {
-    Arg::new(alloc, option.name)
-        .long(option.name)
-        .value_name(option.unit)
-        .help(help)
+/// An option that takes a number in a range.
+fn number_option<'a>(
+    alloc: Global,
+    name: &'static str,
+    unit: &'static str,
+    least: u64,
+    greatest: u64,
+) -> Arg<'a> {
+    Arg::new(alloc, name)
+        .long(name)
+        .value_name(unit)
         .action(ArgAction::Set)
         .allow_negative_numbers(true)
-        .value_parser(ValueParser::unsigned(option.limit.least(), option.limit.greatest()))
+        .value_parser(ValueParser::unsigned(least, greatest))
 }
 
 /// The option that explains a fault, with the bytes of a stream where they are kept.
@@ -104,9 +52,6 @@ fn explain_faults<'a>(alloc: Global) -> Arg<'a> {
         "Says in a further line where a fault is, and what is refused there",
     )
 }
-
-/// How many of the options bound a reader of frames alone: the first two.
-const FRAME_OPTIONS: usize = 2;
 
 /// A word that names a file.
 fn file_word<'a>(
@@ -137,15 +82,15 @@ fn file_of<'a>(alloc: Global, help: &'static str) -> Arg<'a> {
     file_word(alloc, "file", "FILE", help)
 }
 
-/// A subcommand with the first so many of the options that set a limit.
+/// A subcommand with the options that set these limits.
 fn with_limits<'a>(
     alloc: Global,
     mut subcommand: Command<'a>,
+    limits: &[LimitFault],
     limit_texts: &'a [String],
-    count: usize,
 ) -> Result<Command<'a>, AllocError> {
-    for (option, help) in LIMIT_OPTIONS.iter().zip(limit_texts).take(count) {
-        subcommand = subcommand.arg(limit_option(alloc, option, help.as_str()))?;
+    for (place, limit) in limits.iter().enumerate() {
+        subcommand = subcommand.arg(limit_option(alloc, *limit, limit_texts.get(place)))?;
     }
     Ok(subcommand)
 }
@@ -160,7 +105,7 @@ fn serve<'a>(alloc: Global, limit_texts: &'a [String]) -> Result<Command<'a>, Al
         )
         .arg(recording(alloc))?
         .arg(explain_faults(alloc))?;
-    with_limits(alloc, serve, limit_texts, LIMIT_OPTIONS.len())
+    with_limits(alloc, serve, &LIMITS, limit_texts)
 }
 
 fn show<'a>(alloc: Global, limit_texts: &'a [String]) -> Result<Command<'a>, AllocError> {
@@ -189,7 +134,7 @@ fn show<'a>(alloc: Global, limit_texts: &'a [String]) -> Result<Command<'a>, All
             "Lists a body that is no message as refused, and goes on; the status is then 3",
         ))?
         .arg(explain_faults(alloc))?;
-    with_limits(alloc, show, limit_texts, FRAME_OPTIONS)
+    with_limits(alloc, show, &FRAME_LIMITS, limit_texts)
 }
 
 fn unwrap<'a>(alloc: Global, limit_texts: &'a [String]) -> Result<Command<'a>, AllocError> {
@@ -203,11 +148,11 @@ fn unwrap<'a>(alloc: Global, limit_texts: &'a [String]) -> Result<Command<'a>, A
             "The stream, as one side wrote it, of at most 67108864 bytes; `-` is standard input",
         ))?
         .arg(explain_faults(alloc))?;
-    with_limits(alloc, unwrap, limit_texts, FRAME_OPTIONS)
+    with_limits(alloc, unwrap, &FRAME_LIMITS, limit_texts)
 }
 
 fn wrap<'a>(alloc: Global, limit_texts: &'a [String]) -> Result<Command<'a>, AllocError> {
-    let mut wrap = Command::new(alloc, "wrap")
+    Command::new(alloc, "wrap")
         .about("Writes the messages of a file, one a line, as a stream of frames")
         .after_help(
             "Empty lines are skipped.\n\nStatuses: 0 all is written, 2 usage, 3 a line or the length of the file is refused and nothing is written, 5 read or write, 6 memory",
@@ -216,13 +161,10 @@ fn wrap<'a>(alloc: Global, limit_texts: &'a [String]) -> Result<Command<'a>, All
             alloc,
             "The messages, as JSON, one a line, of at most 67108864 bytes; `-` is standard input",
         ))?
-        .arg(explain_faults(alloc))?;
-    for (option, help) in LIMIT_OPTIONS.iter().zip(limit_texts).take(FRAME_OPTIONS) {
+        .arg(explain_faults(alloc))?
         // No header block is read. The option may be given, since a script gives both tools the same.
-        let does_nothing = matches!(option.limit, LimitFault::Header);
-        wrap = wrap.arg(limit_option(alloc, option, help.as_str()).hide(does_nothing))?;
-    }
-    Ok(wrap)
+        .arg(limit_option(alloc, LimitFault::Header, limit_texts.first()).hide(true))?
+        .arg(limit_option(alloc, LimitFault::Body, limit_texts.get(1)))
 }
 
 /// A flag that is off where it is not given.
@@ -304,7 +246,7 @@ fn drive<'a>(alloc: Global, limit_texts: &'a [String]) -> Result<Command<'a>, Al
             "Checks the transcript too, and prints `legal`, or `line L rule K`, on standard error",
         ))?
         .arg(explain_faults(alloc))?;
-    with_limits(alloc, drive, limit_texts, LIMIT_OPTIONS.len())
+    with_limits(alloc, drive, &LIMITS, limit_texts)
 }
 
 fn host<'a>(alloc: Global, limit_texts: &'a [String]) -> Result<Command<'a>, AllocError> {
@@ -322,23 +264,13 @@ fn host<'a>(alloc: Global, limit_texts: &'a [String]) -> Result<Command<'a>, All
             "The sources of what is debugged: a JSON object with `sources` as a recording has them, of at most 67108864 bytes",
         ))?
         .arg(explain_faults(alloc))?;
-    with_limits(alloc, host, limit_texts, LIMIT_OPTIONS.len())?.arg(max_line(alloc))
+    with_limits(alloc, host, &LIMITS, limit_texts)?.arg(max_line(alloc))
 }
 
 /// The option that bounds a line of a host.
 fn max_line<'a>(alloc: Global) -> Arg<'a> {
-    Arg::new(alloc, MAX_LINE)
-        .long(MAX_LINE)
-        .value_name("BYTES")
+    number_option(alloc, MAX_LINE, "BYTES", LEAST_LINE, GREATEST_LINE)
         .help("Greatest length of a line in, 1026 to 1073741826 [default: 16777218]")
-        .action(ArgAction::Set)
-        .allow_negative_numbers(true)
-        .value_parser(ValueParser::unsigned(LEAST_LINE, GREATEST_LINE))
-}
-
-/// The most bytes that a line of a host may have.
-pub fn longest_line(matches: &ArgMatches<'_>) -> u64 {
-    matches.get_one::<u64>(MAX_LINE).unwrap_or(USUAL_LINE)
 }
 
 /// The command line of the program.
@@ -356,37 +288,4 @@ pub fn command<'a>(alloc: Global, limit_texts: &'a [String]) -> Result<Command<'
         .subcommand(check(alloc)?)?
         .subcommand(drive(alloc, limit_texts)?)?
         .subcommand(host(alloc, limit_texts)?)
-}
-
-/// The limits that the options set, and the defaults for the others and for those that the subcommand does not have.
-pub fn limits(matches: &ArgMatches<'_>) -> Result<Limits, LimitFault> {
-    let usual = Limits::usual();
-    let set = |option: &LimitOption| {
-        matches
-            .get_one::<u64>(option.name)
-            .unwrap_or(usual.get(option.limit))
-    };
-    let [
-        header,
-        body,
-        requests,
-        references,
-        breakpoints,
-        seq,
-        reference,
-    ] = &LIMIT_OPTIONS;
-    Limits::new(
-        set(header),
-        set(body),
-        set(requests),
-        set(references),
-        set(breakpoints),
-        set(seq),
-        set(reference),
-    )
-}
-
-/// Whether faults are explained.
-pub fn explains(matches: &ArgMatches<'_>) -> bool {
-    matches.get_flag(EXPLAIN)
 }

@@ -6,6 +6,8 @@
 
 mod command_line;
 mod layout;
+mod options;
 
-pub use command_line::{command, explains, limit_texts, limits, longest_line};
+pub use command_line::command;
 pub use layout::laid_out;
+pub use options::{explains, limit_texts, limits, longest_line};
