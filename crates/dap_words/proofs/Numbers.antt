@@ -1,5 +1,5 @@
 -- What a text says as a number, by the two tests of std and of clap.
-use Rattle.std.proofs.Common.{ℕ, ◌≡◌, ◌^◌, ◌<◌, ◌&&◌, List, Bool, true, false, Option, Some, None, refl, sym, ap, nat_lt, ◌∙◌, ◌++◌, codes, arith, ◌≤◌}
+use Rattle.std.proofs.Common.{ℕ, ◌≡◌, ◌^◌, ◌<◌, ◌&&◌, List, Bool, true, false, Option, Some, None, refl, sym, ap, nat_lt, ◌∙◌, arith, ◌≤◌}
 use Rattle.std.specs.Prelude.{Result, Ok, Err, unwrap_or, option_and_then}
 use Rattle.std.specs.Str.Parse.{digits_value, without_leading_plus, IsNumeral, ParsesUnsigned}
 use Rattle.std.proofs.lemmas.Bool.{lt-ltb, ltb-true, le-leb}

@@ -1,4 +1,4 @@
-use Rattle.std.proofs.Common.{◌≡◌, ◌++◌, List, [], map, string_bytes}
+use Rattle.std.proofs.Common.{◌≡◌, ◌++◌, [], map, string_bytes}
 use Rattle.std.specs.List.{join_with_byte}
 use Rattle.dap_words.specs.Layout.{words}
 use Rattle.dap_words.proofs.layout.push_line.Given as goal
