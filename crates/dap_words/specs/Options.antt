@@ -1,10 +1,10 @@
 -- The options that give numbers, and what a parse of the command line found of them. All are this profile's choice.
-use Rattle.std.specs.Prelude.{◌≡◌, ℕ, ◌^◌, Bool, ◌&&◌, true, false, nat_lt, List, ◌++◌, codes, decimal, Option, Some, None, unwrap_or, option_and_then, if◌then◌else◌}
+use Rattle.std.specs.Prelude.{◌≡◌, ℕ, ◌^◌, Bool, ◌&&◌, true, false, nat_lt, List, ◌++◌, codes, decimal, Option, Some, None, unwrap_or, option_and_then, if◌then◌else◌, map, String, string_bytes, Vec}
 use Rattle.std.specs.Str.Parse.{digits_value, without_leading_plus}
 use Rattle.clap.specs.ValueTests.{is_numeral}
 use Rattle.clap.specs.Words.{found_of, one_text}
 use Rattle.clap.specs.declared.parser.matches.ArgMatches.{ArgMatches}
-use Rattle.dap_frame.specs.Settings.{Settings, settings, usual_settings, setting_of, least_of, greatest_of}
+use Rattle.dap_frame.specs.Settings.{Settings, settings, usual_settings, limits_in_order, setting_of, least_of, greatest_of}
 use Rattle.dap_frame.specs.declared.limits.LimitFault.{LimitFault}
 use Rattle.dap_frame.specs.declared.limits.LimitFault.TheVariants.{Header, Body, Requests, References, Breakpoints, Seq, Reference}
 
@@ -34,6 +34,10 @@ usual_value limit = setting_of limit usual_settings
 -- what the help says of the option
 abbrev pub text_of_option : LimitFault → List ℕ
 text_of_option limit = option_meaning limit ++ codes ", " ++ decimal (least_of limit) ++ codes " to " ++ decimal (greatest_of limit) ++ codes " [default: " ++ decimal (usual_value limit) ++ codes "]"
+
+-- one for each option, in order
+abbrev pub AreOptionTexts : {A B : Type 0} → Vec (String A) B → Type 0
+AreOptionTexts texts = map string_bytes texts.items ≡ map text_of_option limits_in_order
 
 -- ---- the option that bounds a line of a host: a line has room for a message of a body of that size, and for the mark before it
 

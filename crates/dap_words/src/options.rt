@@ -1,8 +1,8 @@
 //! The options that set limits, and what a parse of the command line found of the options that the program reads here.
 
-ghost use Rattle.std.specs.Prelude.{◌≡◌, IfOk, OnOk, IfErr, Some, None, map, codes, string_bytes};
-ghost use Rattle.dap_frame.specs.Settings.{first_outside, limits_in_order};
-ghost use Rattle.dap_words.specs.Options.{option_name, option_meaning, usual_value, text_of_option, number_given, longest_line_given, limit_given, settings_given, IsFlagGiven};
+ghost use Rattle.std.specs.Prelude.{◌≡◌, IfOk, OnOk, IfErr, Some, None, codes, string_bytes};
+ghost use Rattle.dap_frame.specs.Settings.{first_outside};
+ghost use Rattle.dap_words.specs.Options.{option_name, option_meaning, usual_value, text_of_option, AreOptionTexts, number_given, longest_line_given, limit_given, settings_given, IsFlagGiven};
 
 use clap::ArgMatches;
 use dap_frame::{LimitFault, Limits};
@@ -83,7 +83,7 @@ fn text_of(alloc: Global, limit: LimitFault) -> Result<String, AllocError>
 
 /// What the help says of each option that sets a limit, in order.
 pub fn limit_texts(alloc: Global) -> Result<Vec<String>, AllocError>
-    ensures { IfOk result (λ texts. map string_bytes texts.items ≡ map text_of_option limits_in_order) }
+    ensures { IfOk result AreOptionTexts }
 {
     let mut texts = Vec::new(alloc);
     for limit in &LIMITS {
