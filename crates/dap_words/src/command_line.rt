@@ -1,6 +1,6 @@
 //! The words of the command line.
 
-ghost use Rattle.std.specs.Prelude.{◌≡◌, IfOk, ◌∷◌, ◌++◌, [], codes, map, List, ℕ};
+ghost use Rattle.std.specs.Prelude.{◌≡◌, IfOk, ◌++◌, [], codes, map, List, ℕ};
 ghost use Rattle.clap.specs.Words.{Rule, app_of};
 ghost use Rattle.dap_words.specs.CommandLine.{IsCommandLine, explain_rule, file_rule, flag_rule, limit_rule, number_rule, serve_rules, show_rules, wrap_rules, check_rules, drive_rules, host_rules, TakesSides};
 ghost use Rattle.dap_words.specs.Options.{least_line, greatest_line};
