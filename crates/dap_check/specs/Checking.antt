@@ -1,6 +1,6 @@
 -- What a checker of lines has taken, and what it finds of the next one. The rules stand in `Rules`, what a message has to hold
 -- in `dap_shape`. That rule 8 counts last, and where it is asked for alone, is this profile's choice.
-use Rattle.std.specs.Prelude.{◌≡◌, ℕ, ◌+◌, ◌<◌, List, [], ◌∷◌, ◌++◌, length, Bool, true, false, ◌||◌, if◌then◌else◌, Option, Some, None, option_map}
+use Rattle.std.specs.Prelude.{◌≡◌, ◌≢◌, Vec, ℕ, ◌+◌, ◌<◌, List, [], ◌∷◌, ◌++◌, length, Bool, true, false, ◌||◌, if◌then◌else◌, Option, Some, None, option_map}
 use Rattle.dap_envelope.specs.declared.message.Kind.{Kind}
 use Rattle.dap_shape.specs.Faults.{fault_in}
 use Rattle.dap_shape.specs.Seen.{fault_seen}
@@ -8,6 +8,10 @@ use Rattle.dap_check.specs.Legal.{number_of, least_broken}
 use Rattle.dap_check.specs.Kept.{IsSeen}
 use Rattle.dap_check.specs.Transcript.{IsLine, AreLines}
 use Rattle.dap_check.specs.declared.checker.Checker.{Checker}
+use Rattle.dap_check.specs.Findings.{open_requests}
+use Rattle.dap_check.specs.declared.checking.CheckFault.{CheckFault}
+use Rattle.dap_check.specs.declared.checking.CheckFault.TheVariants.{OutOfMemory}
+use Rattle.dap_check.specs.declared.rule.OpenRequest.{OpenRequest}
 use Rattle.dap_check.specs.declared.found.Broken.{Broken}
 use Rattle.dap_check.specs.declared.found.Broken.TheVariants.{Rule as OfRule, Body as OfBody}
 use Rattle.dap_check.specs.declared.found.CheckMode.{CheckMode}
@@ -67,3 +71,17 @@ pub record HasTaken (mode : CheckMode) (texts : List (List ℕ)) (lines : List L
 abbrev pub TakesText : CheckMode → List (List ℕ) → List Line → List ℕ → Option LineFound → Checker → Type 0
 TakesText mode texts lines text None after = (length text ≡ 0) × HasTaken mode (texts ++ text ∷ []) lines after
 TakesText mode texts lines text (Some found) after = (0 < length text) × ((line : Line) × IsLine (length texts + 1) text line × IsFound mode lines line found × HasTaken mode (texts ++ text ∷ []) (lines ++ line ∷ []) after)
+
+-- ---- the same, whatever it had taken
+
+-- one text more is taken
+abbrev pub TakesNext : Checker → List ℕ → Checker → Option LineFound → Type 0
+TakesNext before text after found = (mode : CheckMode) (texts : List (List ℕ)) (lines : List Line) → HasTaken mode texts lines before → TakesText mode texts lines text found after
+
+-- nothing is, unless memory is refused
+abbrev pub KeepsTaken : Checker → Checker → CheckFault → Type 0
+KeepsTaken before after fault = fault ≢ OutOfMemory → (mode : CheckMode) (texts : List (List ℕ)) (lines : List Line) → HasTaken mode texts lines before → HasTaken mode texts lines after
+
+-- the requests of its lines that nothing has answered
+abbrev pub AreUnanswered : {A : Type 0} → Checker → Vec OpenRequest A → Type 0
+AreUnanswered checker requests = (mode : CheckMode) (texts : List (List ℕ)) (lines : List Line) → HasTaken mode texts lines checker → requests.items ≡ open_requests lines

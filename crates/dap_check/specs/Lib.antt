@@ -8,6 +8,7 @@ pub mod Laws
 pub mod FindingLaws
 pub mod Places
 pub mod Transcript
+pub mod Verdicts
 pub mod ReadingLaws
 pub mod Kept
 pub mod PrivateOpen

@@ -27,11 +27,10 @@ pub struct Checker {
 }
 
 impl Checker {
-    ghost use Rattle.std.specs.Prelude.{◌≡◌, ◌≢◌, ◌-◌, ◌^◌, ◌<◌, [], List, ℕ, length, OnOk, IfOk, IfErr, IfSome, IsTrue, None, true};
-    ghost use Rattle.dap_check.specs.Checking.{HasTaken, TakesText, taken_by};
-    ghost use Rattle.dap_check.specs.Findings.{open_requests};
+    ghost use Rattle.std.specs.Prelude.{◌≡◌, ◌-◌, ◌^◌, ◌<◌, [], List, ℕ, length, OnOk, IfOk, IfErr, IfSome, IsTrue, None, true};
+    ghost use Rattle.dap_check.specs.Checking.{HasTaken, TakesText, TakesNext, KeepsTaken, AreUnanswered, taken_by};
     ghost use Rattle.dap_check.specs.PrivateBare.{IsReadAs};
-    ghost use Rattle.dap_check.specs.Transcript.{IsLine, Refuses};
+    ghost use Rattle.dap_check.specs.Transcript.{IsLine, Refuses, RefusesNext};
     ghost use Rattle.dap_shape.specs.Faults.{fault_in};
     ghost use Rattle.dap_check.specs.declared.line.Form.{Form};
     ghost use Rattle.dap_check.specs.declared.checking.CheckFault.{CheckFault};
@@ -67,12 +66,12 @@ impl Checker {
     /// `OutOfMemory` where memory is refused: of the checker nothing more is promised.
     pub fn line(&mut self, alloc: Global, text: &[u8]) -> Result<Option<LineFound>, CheckFault>
         requires { taken_by self.old < 2 ^ 64 - 1 }
-        ensures found { IfOk result (λ found. (mode : CheckMode) (texts : List (List ℕ)) (lines : List TheLine) → HasTaken mode texts lines self.old → TakesText mode texts lines text.now found self.new) }
+        ensures found { IfOk result (TakesNext self.old text.now self.new) }
         ensures bytes { IfOk result (λ found. IfSome found (λ line. 0 < length text.now)) }
         ensures one { OnOk result (taken_by self.new ≡ taken_by self.old + 1) }
         ensures same { IfErr result (λ fault. taken_by self.new ≡ taken_by self.old) }
-        ensures refused { IfErr result (λ fault. Refuses (taken_by self.old + 1) text.now fault × (0 < length text.now)) }
-        ensures kept { IfErr result (λ fault. fault ≢ CheckFault.OutOfMemory → (mode : CheckMode) (texts : List (List ℕ)) (lines : List TheLine) → HasTaken mode texts lines self.old → HasTaken mode texts lines self.new) }
+        ensures refused { IfErr result (RefusesNext (taken_by self.old) text.now) }
+        ensures kept { IfErr result (KeepsTaken self.old self.new) }
     {
         let number = self.number + 1;
         if text.is_empty() {
@@ -108,7 +107,7 @@ impl Checker {
         ensures one { OnOk result (taken_by self.new ≡ taken_by self.old + 1) }
         ensures same { IfErr result (λ fault. taken_by self.new ≡ taken_by self.old) }
         ensures refused { IfErr result (Refuses number text.now) }
-        ensures kept { IfErr result (λ fault. fault ≢ CheckFault.OutOfMemory → (mode : CheckMode) (texts : List (List ℕ)) (lines : List TheLine) → HasTaken mode texts lines self.old → HasTaken mode texts lines self.new) }
+        ensures kept { IfErr result (KeepsTaken self.old self.new) }
     {
         let mode = self.mode;
         let rule = self.seen.least_broken(mode.any_seq, &read.line);
@@ -141,7 +140,7 @@ impl Checker {
     /// # Errors
     /// Memory is refused.
     pub fn unanswered(self, alloc: Global) -> Result<Vec<OpenRequest>, AllocError>
-        ensures { IfOk result (λ requests. (mode : CheckMode) (texts : List (List ℕ)) (lines : List TheLine) → HasTaken mode texts lines self → requests.items ≡ open_requests lines) }
+        ensures { IfOk result (AreUnanswered self) }
     {
         let Checker { seen, .. } = self;
         in_order(alloc, seen.pending)

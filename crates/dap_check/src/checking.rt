@@ -1,12 +1,12 @@
 //! Whether a transcript is legal, and all that is found in it.
-ghost use Rattle.std.specs.Prelude.{◌≡◌, ◌≢◌, ◌⊎◌, ◌+◌, ◌-◌, ◌^◌, ◌<◌, ◌∷◌, ◌++◌, [], List, ℕ, length, OnOk, IfOk, IfErr, IsErrAnd, MatchResult};
+ghost use Rattle.std.specs.Prelude.{◌≡◌, ◌+◌, ◌-◌, ◌^◌, ◌<◌, ◌∷◌, ◌++◌, [], List, ℕ, length, OnOk, IfOk, IfErr, MatchResult};
 ghost use Rattle.std.specs.Str.Lines.{lines};
 ghost use Rattle.dap_check.specs.Checking.{taken_by};
 ghost use Rattle.dap_check.specs.Findings.{finding_at, findings, first_of, IsReport};
-ghost use Rattle.dap_check.specs.Legal.{IsVerdict};
 ghost use Rattle.dap_check.specs.PrivateJudged.{rule_in, IsProgress};
 ghost use Rattle.dap_check.specs.Rules.{of_both_if};
-ghost use Rattle.dap_check.specs.Transcript.{AreLines, Refuses, FirstRefused};
+ghost use Rattle.dap_check.specs.Transcript.{Refuses, FirstRefused, GivesFirstRefused, IsRefusal};
+ghost use Rattle.dap_check.specs.Verdicts.{IsVerdictOnBytes, GivesVerdict, IsReportOnBytes, GivesReport};
 ghost use Rattle.dap_check.specs.declared.checking.CheckFault.{CheckFault};
 ghost use Rattle.dap_check.specs.declared.line.Line.{Line as TheLine};
 ghost use Rattle.dap_check.specs.declared.rule.AnySeq.{AnySeq};
@@ -147,24 +147,24 @@ fn first(findings: &[Finding]) -> Checked
 /// rule that it breaks. With `any_seq` messages may have any number: rule 1 is not tested. A line that is none, or no message,
 /// is told before any finding. [`check_by_side`] leaves rule 1 out for one side alone.
 pub fn check(alloc: Global, bytes: &[u8], any_seq: bool) -> Result<Checked, CheckFault>
-    ensures checked { IfOk result (λ told. (transcript : List TheLine) × AreLines 1 (lines bytes.now) transcript × IsVerdict (of_both_if any_seq) transcript told) }
+    ensures checked { IfOk result (IsVerdictOnBytes (of_both_if any_seq) bytes.now) }
     ensures refused { IfErr result (FirstRefused (lines bytes.now)) }
 
     // And the other way, unless memory runs out.
-    ensures checks { (transcript : List TheLine) (told : Checked) → AreLines 1 (lines bytes.now) transcript → IsVerdict (of_both_if any_seq) transcript told → (result ≡ Ok told) ⊎ (result ≡ Err CheckFault.OutOfMemory) }
-    ensures refuses { (fault : CheckFault) → FirstRefused (lines bytes.now) fault → fault ≢ CheckFault.OutOfMemory → (result ≡ Err fault) ⊎ (result ≡ Err CheckFault.OutOfMemory) }
+    ensures checks { GivesVerdict (of_both_if any_seq) bytes.now result }
+    ensures refuses { GivesFirstRefused (lines bytes.now) result }
 {
     check_by_side(alloc, bytes, AnySeq::of_both_if(any_seq))
 }
 
 /// The same, where `any_seq` says whose numbers are not tested: those of neither side, of one, or of both.
 pub fn check_by_side(alloc: Global, bytes: &[u8], any_seq: AnySeq) -> Result<Checked, CheckFault>
-    ensures checked { IfOk result (λ told. (transcript : List TheLine) × AreLines 1 (lines bytes.now) transcript × IsVerdict any_seq transcript told) }
+    ensures checked { IfOk result (IsVerdictOnBytes any_seq bytes.now) }
     ensures refused { IfErr result (FirstRefused (lines bytes.now)) }
 
     // And the other way, unless memory runs out.
-    ensures checks { (transcript : List TheLine) (told : Checked) → AreLines 1 (lines bytes.now) transcript → IsVerdict any_seq transcript told → (result ≡ Ok told) ⊎ (result ≡ Err CheckFault.OutOfMemory) }
-    ensures refuses { (fault : CheckFault) → FirstRefused (lines bytes.now) fault → fault ≢ CheckFault.OutOfMemory → (result ≡ Err fault) ⊎ (result ≡ Err CheckFault.OutOfMemory) }
+    ensures checks { GivesVerdict any_seq bytes.now result }
+    ensures refuses { GivesFirstRefused (lines bytes.now) result }
 {
     // A law for the proof: no line is both a message and refused.
     each_body_is_one();
@@ -178,12 +178,12 @@ pub fn check_by_side(alloc: Global, bytes: &[u8], any_seq: AnySeq) -> Result<Che
 /// judged by all lines before it, also by those that break a rule. The first finding is that of [`check_by_side`]; a line that is
 /// none, or no message, is reported before any. For rule 8 too see [`Checker`].
 pub fn check_all(alloc: Global, bytes: &[u8], any_seq: AnySeq) -> Result<Report, CheckFault>
-    ensures checked { IfOk result (λ report. (transcript : List TheLine) × AreLines 1 (lines bytes.now) transcript × IsReport any_seq transcript report) }
-    ensures refused { IfErr result (λ fault. (fault ≡ CheckFault.OutOfMemory) ⊎ FirstRefused (lines bytes.now) fault) }
+    ensures checked { IfOk result (IsReportOnBytes any_seq bytes.now) }
+    ensures refused { IfErr result (IsRefusal (lines bytes.now)) }
 
     // And the other way, unless memory runs out.
-    ensures checks { (transcript : List TheLine) → AreLines 1 (lines bytes.now) transcript → MatchResult result (IsReport any_seq transcript) (λ fault. fault ≡ CheckFault.OutOfMemory) }
-    ensures refuses { (fault : CheckFault) → FirstRefused (lines bytes.now) fault → fault ≢ CheckFault.OutOfMemory → IsErrAnd result (λ told. (told ≡ fault) ⊎ (told ≡ CheckFault.OutOfMemory)) }
+    ensures checks { GivesReport any_seq bytes.now result }
+    ensures refuses { GivesFirstRefused (lines bytes.now) result }
 {
     // A law for the proof: no line is both a message and refused.
     each_body_is_one();

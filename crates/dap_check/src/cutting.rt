@@ -1,6 +1,6 @@
 //! The lines of a text, one after the other.
-ghost use Rattle.std.specs.Prelude.{◌≡◌, ℕ, ◌<◌, ◌==◌, List, ◌∷◌, ◌++◌, length, position, IsTrue};
-ghost use Rattle.std.specs.List.{list_any};
+ghost use Rattle.std.specs.Prelude.{◌≡◌, ◌<◌, ◌==◌, ◌∷◌, length, position};
+ghost use Rattle.dap_check.specs.Transcript.{StaysFirst};
 ghost use Rattle.std.specs.Str.Lines.{lines, strip_carriage_return};
 
 use memchr::memchr;
@@ -27,7 +27,7 @@ fn without_carriage_return(line: &[u8]) -> &[u8]
 pub fn split_line(text: &[u8]) -> (&[u8], &[u8])
     requires { 0 < length text.now }
     ensures lines { lines text.now ≡ result.0.now ∷ lines result.1.now }
-    ensures whole { IsTrue (list_any (λ byte. byte == 10) text.now) → (more : List ℕ) → lines (text.now ++ more) ≡ result.0.now ∷ lines (result.1.now ++ more) }
+    ensures whole { StaysFirst text.now result.0.now result.1.now }
     ensures shorter { length result.1.now < length text.now }
 {
     let Some(end) = line_end(text) else {

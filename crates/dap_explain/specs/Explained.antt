@@ -1,7 +1,11 @@
 -- What a checker with reasons has taken, and what it tells of the next line.
-use Rattle.std.specs.Prelude.{◌≡◌, ℕ, ◌+◌, ◌<◌, List, [], ◌∷◌, ◌++◌, length, true, if◌then◌else◌, Option, Some, None}
+use Rattle.std.specs.Prelude.{◌≡◌, ◌≢◌, Vec, ℕ, ◌+◌, ◌<◌, List, [], ◌∷◌, ◌++◌, length, true, if◌then◌else◌, Option, Some, None}
 use Rattle.dap_check.specs.Checking.{taken_by, HasTaken, IsFound}
+use Rattle.dap_check.specs.Findings.{open_requests}
 use Rattle.dap_check.specs.Transcript.{IsLine}
+use Rattle.dap_check.specs.declared.checking.CheckFault.{CheckFault}
+use Rattle.dap_check.specs.declared.checking.CheckFault.TheVariants.{OutOfMemory}
+use Rattle.dap_check.specs.declared.rule.OpenRequest.{OpenRequest}
 use Rattle.dap_check.specs.declared.found.Broken.{Broken}
 use Rattle.dap_check.specs.declared.found.Broken.TheVariants.{Rule as OfRule, Body as OfBody}
 use Rattle.dap_check.specs.declared.found.CheckMode.{CheckMode}
@@ -36,3 +40,17 @@ pub record HasNoted (mode : CheckMode) (texts : List (List ℕ)) (lines : List L
 abbrev pub TakesAndTells : CheckMode → List (List ℕ) → List Line → List ℕ → Option LineTold → ExplainedChecker → Type 0
 TakesAndTells mode texts lines text None after = (length text ≡ 0) × HasNoted mode (texts ++ text ∷ []) lines after
 TakesAndTells mode texts lines text (Some told) after = (0 < length text) × ((line : Line) × IsLine (length texts + 1) text line × IsTold mode lines line told × HasNoted mode (texts ++ text ∷ []) (lines ++ line ∷ []) after)
+
+-- ---- the same, whatever it had taken
+
+-- one text more is taken
+abbrev pub TellsNext : ExplainedChecker → List ℕ → ExplainedChecker → Option LineTold → Type 0
+TellsNext before text after told = (mode : CheckMode) (texts : List (List ℕ)) (lines : List Line) → HasNoted mode texts lines before → TakesAndTells mode texts lines text told after
+
+-- nothing is, unless memory is refused
+abbrev pub KeepsNoted : ExplainedChecker → ExplainedChecker → CheckFault → Type 0
+KeepsNoted before after fault = fault ≢ OutOfMemory → (mode : CheckMode) (texts : List (List ℕ)) (lines : List Line) → HasNoted mode texts lines before → HasNoted mode texts lines after
+
+-- the requests of its lines that nothing has answered
+abbrev pub AreUnansweredOf : {A : Type 0} → ExplainedChecker → Vec OpenRequest A → Type 0
+AreUnansweredOf checker requests = (mode : CheckMode) (texts : List (List ℕ)) (lines : List Line) → HasNoted mode texts lines checker → requests.items ≡ open_requests lines

@@ -4,3 +4,4 @@ pub mod KeptTrails
 pub mod KeptNotes
 pub mod PrivateWalks
 pub mod Explained
+pub mod Explanations

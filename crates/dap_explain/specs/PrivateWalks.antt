@@ -1,12 +1,10 @@
 -- How far the lines of a text were taken. Only private clauses and proofs cite this file.
-use Rattle.std.specs.Prelude.{◌≡◌, ◌≢◌, ◌⊎◌, ℕ, ◌+◌, ◌≤◌, ◌==◌, List, [], ◌∷◌, ◌++◌, length, take, true, false, Option, None, Result, Ok, Err, IfErr}
-use Rattle.std.specs.List.{list_any}
+use Rattle.std.specs.Prelude.{◌≡◌, ◌⊎◌, ℕ, ◌+◌, ◌≤◌, List, ◌++◌, length, take, true, false, Option, Result, IfErr}
 use Rattle.std.specs.Str.Lines.{lines}
 use Rattle.dap_explain.specs.Explained.{noted_by, HasNoted}
-use Rattle.dap_explain.specs.Reasons.{reason_of}
-use Rattle.dap_check.specs.Transcript.{AreLines, FirstRefused}
+use Rattle.dap_explain.specs.Explanations.{ExplainsLastLine, ExplainsNoLine}
+use Rattle.dap_check.specs.Transcript.{FirstRefused, GivesFirstRefused}
 use Rattle.dap_check.specs.declared.checking.CheckFault.{CheckFault}
-use Rattle.dap_check.specs.declared.checking.CheckFault.TheVariants.{OutOfMemory}
 use Rattle.dap_check.specs.declared.found.CheckMode.{CheckMode}
 use Rattle.dap_check.specs.declared.line.Line.{Line}
 use Rattle.dap_check.specs.declared.rule.AnySeq.TheVariants.{OfNone}
@@ -33,7 +31,7 @@ pub record IsAt (number : ℕ) (rest : List ℕ) (checker : ExplainedChecker) : 
 
 -- what is answered of the line of a number, by the texts up to it
 pub record IsExplained (bytes : List ℕ) (number : ℕ) (rule : Rule) (result : Result (Option Reason) CheckFault) : Type 0 where
-  pub explains : (earlier : List Line) (line : Line) → AreLines 1 (take number (lines bytes)) (earlier ++ line ∷ []) → line.number ≡ number → (result ≡ Ok (reason_of rule earlier line)) ⊎ (result ≡ Err OutOfMemory)
-  pub absent : (transcript : List Line) → AreLines 1 (take number (lines bytes)) transcript → list_any (λ line. line.number == number) transcript ≡ false → (result ≡ Ok None) ⊎ (result ≡ Err OutOfMemory)
-  pub refuses : (fault : CheckFault) → FirstRefused (take number (lines bytes)) fault → fault ≢ OutOfMemory → (result ≡ Err fault) ⊎ (result ≡ Err OutOfMemory)
+  pub explains : ExplainsLastLine number rule (take number (lines bytes)) result
+  pub absent : ExplainsNoLine number (take number (lines bytes)) result
+  pub refuses : GivesFirstRefused (take number (lines bytes)) result
   pub refused : IfErr result (FirstRefused (take number (lines bytes)))

@@ -20,13 +20,12 @@ pub struct ExplainedChecker {
 }
 
 impl ExplainedChecker {
-    ghost use Rattle.std.specs.Prelude.{◌≡◌, ◌≢◌, ◌-◌, ◌^◌, ◌<◌, [], List, ℕ, length, OnOk, IfOk, IfErr, IfSome, true};
-    ghost use Rattle.dap_check.specs.Findings.{open_requests};
-    ghost use Rattle.dap_check.specs.Transcript.{IsLine, Refuses};
+    ghost use Rattle.std.specs.Prelude.{◌≡◌, ◌-◌, ◌^◌, ◌<◌, [], List, ℕ, length, OnOk, IfOk, IfErr, IfSome, true};
+    ghost use Rattle.dap_check.specs.Transcript.{IsLine, Refuses, RefusesNext};
     ghost use Rattle.dap_check.specs.declared.checking.CheckFault.{CheckFault};
     ghost use Rattle.dap_check.specs.declared.found.CheckMode.{CheckMode};
     ghost use Rattle.dap_check.specs.declared.line.Line.{Line as TheLine};
-    ghost use Rattle.dap_explain.specs.Explained.{HasNoted, TakesAndTells, noted_by};
+    ghost use Rattle.dap_explain.specs.Explained.{HasNoted, TellsNext, KeepsNoted, AreUnansweredOf, noted_by};
     ghost use Rattle.dap_explain.specs.Reasons.{reason_of};
 
     /// Before the first line.
@@ -54,11 +53,11 @@ impl ExplainedChecker {
     /// Those of [`Checker::line`], which say what is left then.
     pub fn line(&mut self, alloc: Global, text: &[u8]) -> Result<Option<LineTold>, CheckFault>
         requires { noted_by self.old < 2 ^ 64 - 1 }
-        ensures told { IfOk result (λ told. (mode : CheckMode) (texts : List (List ℕ)) (lines : List TheLine) → HasNoted mode texts lines self.old → TakesAndTells mode texts lines text.now told self.new) }
+        ensures told { IfOk result (TellsNext self.old text.now self.new) }
         ensures bytes { IfOk result (λ told. IfSome told (λ line. 0 < length text.now)) }
         ensures one { OnOk result (noted_by self.new ≡ noted_by self.old + 1) }
-        ensures refused { IfErr result (λ fault. Refuses (noted_by self.old + 1) text.now fault × (0 < length text.now)) }
-        ensures kept { IfErr result (λ fault. fault ≢ CheckFault.OutOfMemory → (mode : CheckMode) (texts : List (List ℕ)) (lines : List TheLine) → HasNoted mode texts lines self.old → HasNoted mode texts lines self.new) }
+        ensures refused { IfErr result (RefusesNext (noted_by self.old) text.now) }
+        ensures kept { IfErr result (KeepsNoted self.old self.new) }
     {
         match self.checker.line(alloc, text)? {
             None => Ok(None),
@@ -102,7 +101,7 @@ impl ExplainedChecker {
     /// # Errors
     /// Memory is refused.
     pub fn unanswered(self, alloc: Global) -> Result<Vec<OpenRequest>, AllocError>
-        ensures { IfOk result (λ requests. (mode : CheckMode) (texts : List (List ℕ)) (lines : List TheLine) → HasNoted mode texts lines self → requests.items ≡ open_requests lines) }
+        ensures { IfOk result (AreUnansweredOf self) }
     {
         let ExplainedChecker { checker, .. } = self;
         checker.unanswered(alloc)

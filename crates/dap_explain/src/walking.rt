@@ -1,11 +1,10 @@
 //! Why one line of a transcript breaks a rule: the lines before it, taken once.
-ghost use Rattle.std.specs.Prelude.{◌≡◌, ◌≢◌, ◌⊎◌, ◌+◌, ◌-◌, ◌^◌, ◌<◌, ◌==◌, ◌∷◌, ◌++◌, [], List, ℕ, length, take, false, OnOk, IfOk, IfErr};
-ghost use Rattle.std.specs.List.{list_any};
+ghost use Rattle.std.specs.Prelude.{◌≡◌, ◌+◌, ◌-◌, ◌^◌, ◌<◌, ◌∷◌, ◌++◌, [], List, ℕ, take, false, OnOk, IfOk, IfErr};
 ghost use Rattle.std.specs.Str.Lines.{lines};
 ghost use Rattle.dap_explain.specs.Explained.{HasNoted, noted_by};
 ghost use Rattle.dap_explain.specs.PrivateWalks.{explaining, IsWalk, IsAt, IsExplained};
-ghost use Rattle.dap_explain.specs.Reasons.{reason_of};
-ghost use Rattle.dap_check.specs.Transcript.{AreLines, Refuses, FirstRefused, IsRefusedIn};
+ghost use Rattle.dap_check.specs.Transcript.{RefusesNext, FirstRefused, GivesFirstRefused, IsRefusedIn};
+ghost use Rattle.dap_explain.specs.Explanations.{ExplainsLine, ExplainsLastLine, ExplainsNoLine};
 ghost use Rattle.dap_check.specs.declared.checking.CheckFault.{CheckFault};
 ghost use Rattle.dap_check.specs.declared.line.Line.{Line as TheLine};
 
@@ -27,7 +26,7 @@ fn take_text(alloc: Global, checker: &mut ExplainedChecker, text: &[u8]) -> Resu
     requires { noted_by checker.old < 2 ^ 64 - 1 }
     ensures noted { OnOk result ((texts : List (List ℕ)) (read : List TheLine) → HasNoted explaining texts read checker.old → (more : List TheLine) × HasNoted explaining (texts ++ text.now ∷ []) more checker.new) }
     ensures one { OnOk result (noted_by checker.new ≡ noted_by checker.old + 1) }
-    ensures refused { IfErr result (λ fault. Refuses (noted_by checker.old + 1) text.now fault × (0 < length text.now)) }
+    ensures refused { IfErr result (RefusesNext (noted_by checker.old) text.now) }
 {
     let told = checker.line(alloc, text)?;
     drop(told);
@@ -96,15 +95,15 @@ pub fn explain(
     number: u64,
     rule: Rule,
 ) -> Result<Option<Reason>, CheckFault>
-    ensures explains { (earlier : List TheLine) (line : TheLine) (later : List TheLine) → AreLines 1 (lines bytes.now) (earlier ++ line ∷ later) → line.number ≡ number → (result ≡ Ok (reason_of rule earlier line)) ⊎ (result ≡ Err CheckFault.OutOfMemory) }
-    ensures absent { (transcript : List TheLine) → AreLines 1 (lines bytes.now) transcript → list_any (λ line. line.number == number) transcript ≡ false → (result ≡ Ok None) ⊎ (result ≡ Err CheckFault.OutOfMemory) }
+    ensures explains { ExplainsLine number rule (lines bytes.now) result }
+    ensures absent { ExplainsNoLine number (lines bytes.now) result }
     ensures refused { IfErr result (IsRefusedIn (lines bytes.now)) }
 
     // By the lines up to that number alone, also where a later one is refused.
-    ensures explains_so_far { (earlier : List TheLine) (line : TheLine) → AreLines 1 (take number (lines bytes.now)) (earlier ++ line ∷ []) → line.number ≡ number → (result ≡ Ok (reason_of rule earlier line)) ⊎ (result ≡ Err CheckFault.OutOfMemory) }
-    ensures absent_so_far { (transcript : List TheLine) → AreLines 1 (take number (lines bytes.now)) transcript → list_any (λ line. line.number == number) transcript ≡ false → (result ≡ Ok None) ⊎ (result ≡ Err CheckFault.OutOfMemory) }
+    ensures explains_so_far { ExplainsLastLine number rule (take number (lines bytes.now)) result }
+    ensures absent_so_far { ExplainsNoLine number (take number (lines bytes.now)) result }
     ensures refused_so_far { IfErr result (FirstRefused (take number (lines bytes.now))) }
-    ensures refuses { (fault : CheckFault) → FirstRefused (take number (lines bytes.now)) fault → fault ≢ CheckFault.OutOfMemory → (result ≡ Err fault) ⊎ (result ≡ Err CheckFault.OutOfMemory) }
+    ensures refuses { GivesFirstRefused (take number (lines bytes.now)) result }
 {
     // A law for the proof: how transcripts grow.
     texts_are_read_in_one_way();

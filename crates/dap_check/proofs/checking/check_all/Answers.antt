@@ -1,4 +1,4 @@
-use Rattle.std.proofs.Common.{inr}
+use Rattle.std.proofs.Common.{Err, inl, inr, ap}
 use Rattle.std.specs.Str.Lines.{lines}
 use Rattle.dap_check.specs.Findings.{IsReport}
 use Rattle.dap_check.specs.Transcript.{FirstRefused}
@@ -33,4 +33,5 @@ pub returns-in-Err-clause-checks : goal.returns-in-Err-clause-checks
 returns-in-Err-clause-checks c = λ transcript are. only_memory c.each_body_is_one.ensures (lines c.args.bytes.now) transcript are c.in-Err.fault c.in-Err.ensures.refused
 
 pub returns-in-Err-clause-refuses : goal.returns-in-Err-clause-refuses
-returns-in-Err-clause-refuses c = λ fault refused other. one_told c.each_body_is_one.ensures (lines c.args.bytes.now) c.in-Err.fault fault c.in-Err.ensures.refused refused other
+returns-in-Err-clause-refuses c = λ fault refused other.
+    elim (one_told c.each_body_is_one.ensures (lines c.args.bytes.now) c.in-Err.fault fault c.in-Err.ensures.refused refused other) [ inl e ↦ inl (ap Err e) | inr e ↦ inr (ap Err e) ]

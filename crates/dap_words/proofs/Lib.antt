@@ -1,0 +1,5 @@
+pub mod Numbers
+pub mod Shapes
+pub mod Words
+mod OptionExamples
+mod LayoutExamples

@@ -1,0 +1,4 @@
+pub mod Options
+pub mod CommandLine
+pub mod PrivateShapes
+pub mod Layout
