@@ -49,6 +49,6 @@ abbrev pub StopsWithin : RecordingKey → ℕ → Stop → Stop → Type 0
 StopsWithin k n (stop.Bad place) outer = IfBad outer (λ found. found ≡ within k n place.value)
 StopsWithin k n stop.OutOfMemory outer = IfBad outer (λ found. ⊥)
 
-abbrev pub fault_of : Stop → RecordingFault
-fault_of (stop.Bad place) = BadKey place.value.key
-fault_of stop.OutOfMemory = OutOfMemory
+abbrev pub fault_of_stop : Stop → RecordingFault
+fault_of_stop (stop.Bad place) = BadKey place.value.key
+fault_of_stop stop.OutOfMemory = OutOfMemory

@@ -39,9 +39,9 @@ impl<T: Drop> From<AllocFailed<T>> for Stop {
 }
 
 impl From<Stop> for RecordingFault {
-    ghost use Rattle.dap_recording.specs.PrivateStops.{fault_of};
+    ghost use Rattle.dap_recording.specs.PrivateStops.{fault_of_stop};
 
-    ghost from_gives = { λ stop e. e ≡ fault_of stop };
+    ghost from_gives = { λ stop e. e ≡ fault_of_stop stop };
 
     fn from(stop: Stop) -> RecordingFault {
         match stop {
