@@ -11,6 +11,7 @@ pub mod Reading
 pub mod Refusals
 pub mod AloneLaw
 pub mod PrivateStops
+pub mod StopFaults
 pub mod PrivatePaths
 pub mod PrivateHolders
 pub mod PrivateReadThreads

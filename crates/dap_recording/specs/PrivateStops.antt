@@ -9,8 +9,6 @@ use Rattle.dap_json.specs.Steps.{Returns}
 use Rattle.dap_recording.specs.Places.{Read, within}
 use Rattle.dap_recording.specs.declared.place.BadPlace.{BadPlace}
 use Rattle.dap_recording.specs.declared.reading.RecordingKey.{RecordingKey}
-use Rattle.dap_recording.specs.declared.reading.RecordingFault.{RecordingFault}
-use Rattle.dap_recording.specs.declared.reading.RecordingFault.TheVariants.{BadKey, OutOfMemory}
 use Rattle.dap_recording.specs.declared.stop.Stop.{Stop}
 use Rattle.dap_recording.specs.declared.stop.Stop.TheVariants as stop
 
@@ -48,7 +46,3 @@ FindsList result read = Returns (λ v. v.items) Stops result read
 abbrev pub StopsWithin : RecordingKey → ℕ → Stop → Stop → Type 0
 StopsWithin k n (stop.Bad place) outer = IfBad outer (λ found. found ≡ within k n place.value)
 StopsWithin k n stop.OutOfMemory outer = IfBad outer (λ found. ⊥)
-
-abbrev pub fault_of_stop : Stop → RecordingFault
-fault_of_stop (stop.Bad place) = BadKey place.value.key
-fault_of_stop stop.OutOfMemory = OutOfMemory

@@ -39,7 +39,7 @@ impl<T: Drop> From<AllocFailed<T>> for Stop {
 }
 
 impl From<Stop> for RecordingFault {
-    ghost use Rattle.dap_recording.specs.PrivateStops.{fault_of_stop};
+    ghost use Rattle.dap_recording.specs.StopFaults.{fault_of_stop};
 
     ghost from_gives = { λ stop e. e ≡ fault_of_stop stop };
 
