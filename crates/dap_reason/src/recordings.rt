@@ -6,7 +6,9 @@ ghost use Rattle.dap_explain.specs.Sentences.{joined_text};
 ghost use Rattle.dap_reason.specs.Recordings.{words_of_kind, words_of_lines, words_of_number, words_of_cause, text_of_element, text_of_index, text_of_place, words_of_refusal_found, words_of_bytes, words_of_recording};
 
 use crate::excerpt::{Part, push};
-use dap_recording::{BadCause, BadPlace, Element, JsonKind, RecordingFault, RecordingRefusal, refusal_of};
+use dap_recording::{
+    BadCause, BadPlace, Element, JsonKind, RecordingFault, RecordingRefusal, refusal_of,
+};
 use std::alloc::{AllocError, Global};
 
 /// What is said where memory was refused.

@@ -5,12 +5,10 @@ ghost use Rattle.dap_recording.specs.Places.{present_at};
 ghost use Rattle.dap_recording.specs.PrivateStops.{Finds, FindsItems, FindsValue};
 ghost use Rattle.dap_recording.specs.Reading.{text_at, text_if_any, optional_text_at, short_text_at, flag_at, exit_at, items_at, items_if_any as items_if_any_of, more_at, some_items as some_items_of, few_items as few_items_of};
 
-use crate::causes;
-use crate::numbers;
 use crate::place::{BadCause, JsonKind};
-use crate::stop;
 use crate::stop::Stop;
 use crate::texts::Texts;
+use crate::{causes, numbers, stop};
 use dap_json::{More, Text};
 use serde_json::Value;
 use std::alloc::{AllocError, AllocFailed, Global};
@@ -171,11 +169,7 @@ pub(crate) fn short_text(
     };
     match found.as_str() {
         Some(text) if text.len() <= most => Ok(Some(texts.text(text)?)),
-        _ => Err(stop::here(
-            texts.alloc,
-            key,
-            causes::no_short_text(found, most),
-        )),
+        _ => Err(stop::here(texts.alloc, key, causes::no_short_text(found, most))),
     }
 }
 
@@ -213,11 +207,7 @@ pub(crate) fn exit(alloc: Global, value: &Value) -> Result<i32, Stop>
     let found = present(alloc, value, RecordingKey::Exit)?;
     match numbers::status(found) {
         Some(status) => Ok(status),
-        None => Err(stop::here(
-            alloc,
-            RecordingKey::Exit,
-            causes::no_exit(found),
-        )),
+        None => Err(stop::here(alloc, RecordingKey::Exit, causes::no_exit(found))),
     }
 }
 
@@ -240,11 +230,7 @@ pub(crate) fn more(texts: &Texts, value: &Value) -> Result<More, Stop>
     };
     match More::of(texts.alloc, found)? {
         Some(more) => Ok(more),
-        None => Err(stop::here(
-            texts.alloc,
-            RecordingKey::More,
-            causes::no_more(found),
-        )),
+        None => Err(stop::here(texts.alloc, RecordingKey::More, causes::no_more(found))),
     }
 }
 
@@ -266,11 +252,7 @@ pub(crate) fn items_if_any(
 }
 
 #[tactic(auto, using(crate::proofs::Elements::count_is_length))]
-pub(crate) fn some_items(
-    alloc: Global,
-    value: &Value,
-    key: RecordingKey,
-) -> Result<&[Value], Stop>
+pub(crate) fn some_items(alloc: Global, value: &Value, key: RecordingKey) -> Result<&[Value], Stop>
     ensures { FindsItems result (some_items_of key (view value.now)) }
 {
     let items = items(alloc, value, key)?;

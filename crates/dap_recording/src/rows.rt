@@ -6,8 +6,8 @@ ghost use Rattle.dap_recording.specs.Places.{value_at};
 ghost use Rattle.dap_recording.specs.PrivateStops.{Finds, FindsWith, FindsList, FindsListWith};
 ghost use Rattle.dap_recording.specs.Reading.{Numbered, none_numbered, untold_of, stop_of, source_at, line_at, new_id_at, thread_place_at, frame_source as frame_source_of, frame_line as frame_line_of, read_variables, variable_row, variables_of, holder_of, with_holder, each, each_source, scope_of, scopes_of, frame_of, thread_of, moment_of, moments_of, source_of, recording_of, lines_at, place_of, source_rows as source_rows_of, sources_at as sources_at_of, moment_alone as moment_alone_of};
 
-use crate::read_threads::ReadThreads;
 use crate::place::JsonKind;
+use crate::read_threads::ReadThreads;
 use crate::reading::{RecordingKey, Teller};
 use crate::recording::{Moment, OwnStop, RecordedSource, RecordedThread, Recording, Span};
 use crate::snapshot::Snapshot;
@@ -85,12 +85,7 @@ fn variables(
     ensures { FindsListWith result holders.new.items (variables_of (view value.now) holders.old.items) }
 {
     let Some(items) = value.as_array() else {
-        return Err(stop::other(
-            texts.alloc,
-            RecordingKey::Variables,
-            value,
-            JsonKind::Array,
-        ));
+        return Err(stop::other(texts.alloc, RecordingKey::Variables, value, JsonKind::Array));
     };
     let mut found = Vec::with_capacity(texts.alloc, items.len())?;
     for item in items {
@@ -107,11 +102,7 @@ fn variables(
 // ---- scopes, frames and threads
 
 #[tactic(auto, unfolding(crate::specs::Reading::scope_of))]
-fn scope(
-    texts: &mut Texts,
-    value: &Value,
-    holders: &mut Vec<List<Variable>>,
-) -> Result<Scope, Stop>
+fn scope(texts: &mut Texts, value: &Value, holders: &mut Vec<List<Variable>>) -> Result<Scope, Stop>
     ensures { FindsWith result holders.new.items (scope_of (view value.now) holders.old.items) }
 {
     let name = reading::text(texts, value, RecordingKey::Name)?;
@@ -482,10 +473,7 @@ fn source(texts: &mut Texts, value: &Value) -> Result<RecordedSource, Stop>
     })
 }
 
-pub(crate) fn sources(
-    texts: &mut Texts,
-    items: &[Value],
-) -> Result<Vec<RecordedSource>, Stop>
+pub(crate) fn sources(texts: &mut Texts, items: &[Value]) -> Result<Vec<RecordedSource>, Stop>
     ensures { FindsList result (each_source (items_view items.now) []) }
 {
     let mut found = Vec::with_capacity(texts.alloc, items.len())?;
@@ -609,12 +597,7 @@ pub(crate) fn moment_alone(
     ensures { Finds result (moment_alone_of sources.now (view value.now)) }
 {
     if !value.is_object() {
-        return Err(stop::other(
-            texts.alloc,
-            RecordingKey::Moments,
-            value,
-            JsonKind::Object,
-        ));
+        return Err(stop::other(texts.alloc, RecordingKey::Moments, value, JsonKind::Object));
     }
     let mut numbers = Numbers::new(texts.alloc);
     let moment = moment(texts, Teller::Host, sources, value, &mut numbers)?;
