@@ -75,8 +75,8 @@ TakesText mode texts lines text (Some found) after = (0 < length text) × ((line
 -- ---- the same, whatever it had taken
 
 -- one text more is taken
-abbrev pub TakesNext : Checker → List ℕ → Checker → Option LineFound → Type 0
-TakesNext before text after found = (mode : CheckMode) (texts : List (List ℕ)) (lines : List Line) → HasTaken mode texts lines before → TakesText mode texts lines text found after
+abbrev pub TakesNextText : Checker → List ℕ → Checker → Option LineFound → Type 0
+TakesNextText before text after found = (mode : CheckMode) (texts : List (List ℕ)) (lines : List Line) → HasTaken mode texts lines before → TakesText mode texts lines text found after
 
 -- nothing is, unless memory is refused
 abbrev pub KeepsTaken : Checker → Checker → CheckFault → Type 0

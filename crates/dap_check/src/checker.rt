@@ -28,7 +28,7 @@ pub struct Checker {
 
 impl Checker {
     ghost use Rattle.std.specs.Prelude.{◌≡◌, ◌-◌, ◌^◌, ◌<◌, [], List, ℕ, length, OnOk, IfOk, IfErr, IfSome, IsTrue, None, true};
-    ghost use Rattle.dap_check.specs.Checking.{HasTaken, TakesText, TakesNext, KeepsTaken, AreUnanswered, taken_by};
+    ghost use Rattle.dap_check.specs.Checking.{HasTaken, TakesText, TakesNextText, KeepsTaken, AreUnanswered, taken_by};
     ghost use Rattle.dap_check.specs.PrivateBare.{IsReadAs};
     ghost use Rattle.dap_check.specs.Transcript.{IsLine, Refuses, RefusesNext};
     ghost use Rattle.dap_shape.specs.Faults.{fault_in};
@@ -66,7 +66,7 @@ impl Checker {
     /// `OutOfMemory` where memory is refused: of the checker nothing more is promised.
     pub fn line(&mut self, alloc: Global, text: &[u8]) -> Result<Option<LineFound>, CheckFault>
         requires { taken_by self.old < 2 ^ 64 - 1 }
-        ensures found { IfOk result (TakesNext self.old text.now self.new) }
+        ensures found { IfOk result (TakesNextText self.old text.now self.new) }
         ensures bytes { IfOk result (λ found. IfSome found (λ line. 0 < length text.now)) }
         ensures one { OnOk result (taken_by self.new ≡ taken_by self.old + 1) }
         ensures same { IfErr result (λ fault. taken_by self.new ≡ taken_by self.old) }

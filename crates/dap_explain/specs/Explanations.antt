@@ -18,10 +18,10 @@ abbrev pub ExplainsLastLine : ℕ → Rule → List (List ℕ) → Result (Optio
 ExplainsLastLine number rule texts result = (earlier : List Line) (line : Line)
     → AreLines 1 texts (earlier ++ line ∷ []) → line.number ≡ number → IsOrOutOfMemory (Ok (reason_of rule earlier line)) result
 
-abbrev pub has_line : ℕ → List Line → Bool
-has_line number transcript = list_any (λ line. line.number == number) transcript
+abbrev pub has_line_numbered : ℕ → List Line → Bool
+has_line_numbered number transcript = list_any (λ line. line.number == number) transcript
 
 -- where none of them has this number, the answer is none
 abbrev pub ExplainsNoLine : ℕ → List (List ℕ) → Result (Option Reason) CheckFault → Type 0
 ExplainsNoLine number texts result = (transcript : List Line)
-    → AreLines 1 texts transcript → has_line number transcript ≡ false → IsOrOutOfMemory (Ok None) result
+    → AreLines 1 texts transcript → has_line_numbered number transcript ≡ false → IsOrOutOfMemory (Ok None) result

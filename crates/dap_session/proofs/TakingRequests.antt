@@ -1,5 +1,5 @@
 -- What a request comes to when it is taken.
-use Rattle.std.proofs.Common.{◌≡◌, ℕ, ◌+◌, ◌≤◌, List, [], Bool, true, false, None, Result, Ok, Err, IfOk, OnOk, refl, ap, ◌∙◌, length}
+use Rattle.std.proofs.Common.{◌≡◌, ℕ, ◌+◌, ◌≤◌, List, [], Bool, true, false, None, Result, Ok, Err, IfOk, refl, ap, ◌∙◌, length}
 use Rattle.dap_session.proofs.Turning.{within}
 use Rattle.dap_tables.specs.Outstanding.{contains_seq}
 use Rattle.dap_tables.specs.declared.entry.Entry.{Entry}

@@ -1,12 +1,9 @@
 -- Where memory is refused, the debuggee was not asked but by what is asked before the answer is written.
-use Rattle.std.proofs.Common.{◌≡◌, ◌+◌, ◌≤◌, Bool, true, false, Option, Some, None, Ok, Err, refl, arith}
-use Rattle.std.specs.Prelude.{nat_le, if◌then◌else◌}
+use Rattle.std.proofs.Common.{◌≡◌, ◌+◌, ◌≤◌, true, Some, Ok, arith}
+use Rattle.std.specs.Prelude.{nat_le}
 use Rattle.std.proofs.lemmas.Bool.Decides.{nat_tests}
-use Rattle.dap_tables.specs.Outstanding.{Kept}
-use Rattle.dap_debuggee.specs.Shown.{Shown, to_start, to_resume, to_pause, to_poll, to_set_breakpoints, to_assign, to_end}
-use Rattle.dap_plan.specs.declared.fault.AdapterFault.TheVariants.{SeqExhausted}
-use Rattle.dap_plan.specs.Handling.{plan, some_plan, turn_of}
-use Rattle.dap_plan.specs.Plan.{Plan, at_once, asking, messages_due, plan_within_numbers}
+use Rattle.dap_plan.specs.Handling.{plan, some_plan}
+use Rattle.dap_plan.specs.Plan.{Plan, messages_due, plan_within_numbers}
 use Rattle.dap_plan.specs.SessionState.{IsUnasked}
 use Rattle.dap_plan.specs.Session.{Session}
 

@@ -1,1 +1,2 @@
 pub mod PrivateQuerying
+pub mod SessionCalls

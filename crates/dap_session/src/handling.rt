@@ -1,9 +1,10 @@
 //! How a request is handled.
-ghost use Rattle.std.specs.Prelude.{◌≡◌, ◌+◌, ◌≤◌, ◌<◌, IfOk, IfErr, OnOk, OnErr, IsTrue, IfSome, IfNone, None, option_map, false};
+ghost use Rattle.dap_session.specs.SessionCalls.{AddsTurn, HasLessToHandle, LeavesSession, TurnsIdly};
+ghost use Rattle.std.specs.Prelude.{◌≡◌, ◌+◌, ◌≤◌, ◌<◌, IfOk, IfErr, OnOk, OnErr, IsTrue, IfSome, None, option_map, false};
 ghost use Rattle.dap_outbox.specs.Outbox.{IsReady};
 ghost use Rattle.dap_tables.specs.Outstanding.{contains_seq, is_parked};
-ghost use Rattle.dap_plan.specs.SessionState.{Carries, IsRefusedFor, plan_of_decision, IsIdle, HasTurned, NotTurned, AppendsSome};
-ghost use Rattle.dap_plan.specs.Session.{oldest, to_handle, numbers_of};
+ghost use Rattle.dap_plan.specs.SessionState.{Carries, IsRefusedFor, plan_of_decision, IsIdle, HasTurned, NotTurned};
+ghost use Rattle.dap_plan.specs.Session.{oldest, numbers_of};
 ghost use Rattle.dap_plan.specs.Handling.{plan, plan_for};
 ghost use Rattle.dap_plan.specs.Plan.{messages_due};
 ghost use Rattle.dap_plan.specs.Changing.{IsSuitable, Suits};
@@ -206,7 +207,7 @@ impl<D: Debuggee + Drop> Session<D> {
         ensures refused { IfErr result (λ fault. NotTurned D.shown fault self.old self.new) }
         ensures waiting { OnErr result (oldest self.old.session.kept ≡ None → ⊥) }
         ensures err { OnErr result (self.new.session ≡ self.old.session) }
-        ensures fewer { IfOk result (λ done. IsTrue done → to_handle self.new.session.kept < to_handle self.old.session.kept) }
+        ensures fewer { IfOk result (HasLessToHandle self.old self.new) }
         ensures limits { self.new.session.limits ≡ self.old.session.limits }
         ensures before { out.new.before ≡ out.old.before }
     {
@@ -224,14 +225,14 @@ impl<D: Debuggee + Drop> Session<D> {
     /// Handles the request that came first of those that are not parked: whether there is one. What is written is appended to
     /// `out`; where it fails, `out` is as it was.
     pub fn turn(&mut self, alloc: Global, out: &mut Vec<u8>) -> Result<bool, AdapterFault>
-        ensures idle { IfOk result (λ done. done ≡ false → IsIdle (D.shown self.old.debuggee) self.old self.new × (out.new.items ≡ out.old.items)) }
-        ensures done { IfOk result (λ done. IsTrue done → AppendsSome (λ bytes. HasTurned D.shown D.follows self.old self.new bytes) out.old.items out.new.items) }
+        ensures idle { IfOk result (TurnsIdly D.shown self.old self.new out.old out.new) }
+        ensures done { IfOk result (AddsTurn D.shown D.follows self.old self.new out.old out.new) }
         ensures refused { IfErr result (λ fault. NotTurned D.shown fault self.old self.new) }
         ensures waiting { OnErr result (oldest self.old.session.kept ≡ None → ⊥) }
-        ensures err { OnErr result ((self.new.session ≡ self.old.session) × (out.new.items ≡ out.old.items)) }
+        ensures err { OnErr result (LeavesSession self.old self.new out.old out.new) }
 
         // Then fewer requests wait to be handled.
-        ensures fewer { IfOk result (λ done. IsTrue done → to_handle self.new.session.kept < to_handle self.old.session.kept) }
+        ensures fewer { IfOk result (HasLessToHandle self.old self.new) }
         ensures limits { self.new.session.limits ≡ self.old.session.limits }
     {
         let mut outbox = self.outbox_behind(alloc, out);

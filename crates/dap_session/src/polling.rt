@@ -1,11 +1,12 @@
 //! What happened to the debuggee, told to the client.
-ghost use Rattle.std.specs.Prelude.{◌≡◌, ◌+◌, ◌≤◌, ◌<◌, [], ◌∷◌, length, IfOk, IfErr, OnOk, OnErr, IsOk, IsTrue, false};
+ghost use Rattle.dap_session.specs.SessionCalls.{AddsPoll, LeavesSession, PollsNobody, RefusesPoll};
+ghost use Rattle.std.specs.Prelude.{◌≡◌, ◌+◌, ◌≤◌, ◌<◌, [], ◌∷◌, length, IfErr, OnOk, OnErr, IsTrue, false};
 ghost use Rattle.dap_plan.specs.Session.{numbers_of};
 ghost use Rattle.dap_message.specs.Lengths.{IsWithin};
 ghost use Rattle.dap_debuggee.specs.Laws.{is_short};
 ghost use Rattle.dap_plan.specs.SessionState.{MadeBy, Carries, LacksRoom, IsRefusedPoll, AppendsSome};
 ghost use Rattle.dap_outbox.specs.Draft.{emit};
-ghost use Rattle.dap_plan.specs.Polling.{after_happening, after_poll_reply, polls, has_debuggee};
+ghost use Rattle.dap_plan.specs.Polling.{after_happening, after_poll_reply, has_debuggee};
 ghost use Rattle.dap_debuggee.specs.Shown.{to_poll};
 ghost use Rattle.dap_plan.specs.Plan.{asking};
 ghost use Rattle.dap_outbox.specs.Outbox.{Holds, event_of, IsReady};
@@ -124,12 +125,12 @@ impl<D: Debuggee + Drop> Session<D> {
     /// Asks the debuggee what happened, where there is one, and appends what is told of it to `out`. Where it fails, `out` is as
     /// it was.
     pub fn poll(&mut self, alloc: Global, out: &mut Vec<u8>) -> Result<(), AdapterFault>
-        ensures carries { OnOk result (AppendsSome (λ bytes. Carries D.follows (polls self.old.session) self.old self.new bytes) out.old.items out.new.items) }
+        ensures carries { OnOk result (AddsPoll D.follows self.old self.new out.old out.new) }
         ensures within { OnOk result (self.new.session.used ≤ self.old.session.limits.seq) }
-        ensures refused { IfErr result (λ fault. IsRefusedPoll D.follows fault (polls self.old.session) self.old self.new) }
-        ensures err { OnErr result ((self.new.session ≡ self.old.session) × (out.new.items ≡ out.old.items)) }
+        ensures refused { IfErr result (RefusesPoll D.follows self.old self.new) }
+        ensures err { OnErr result (LeavesSession self.old self.new out.old out.new) }
         ensures limits { self.new.session.limits ≡ self.old.session.limits }
-        ensures apart { has_debuggee self.old.session.phase ≡ false → (out.new.items ≡ out.old.items) × (self.new ≡ self.old) × IsOk result }
+        ensures apart { PollsNobody self.old self.new out.old out.new result }
     {
         let _ = self.numbers();
         if has_debuggee(self.phase()) {
@@ -143,7 +144,7 @@ impl<D: Debuggee + Drop> Session<D> {
         ensures carries { OnOk result (AppendsSome (λ bytes. Carries D.follows (asking to_poll (after_poll_reply self.old.session)) self.old self.new bytes) out.old.items out.new.items) }
         ensures within { OnOk result (self.new.session.used ≤ self.old.session.limits.seq) }
         ensures refused { IfErr result (λ fault. IsRefusedPoll D.follows fault (asking to_poll (after_poll_reply self.old.session)) self.old self.new) }
-        ensures err { OnErr result ((self.new.session ≡ self.old.session) × (out.new.items ≡ out.old.items)) }
+        ensures err { OnErr result (LeavesSession self.old self.new out.old out.new) }
         ensures limits { self.new.session.limits ≡ self.old.session.limits }
     {
         let mut outbox = self.outbox_behind(alloc, out);

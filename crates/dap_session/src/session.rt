@@ -1,12 +1,13 @@
 //! A session with its debuggee: what is kept, and how it changes.
-ghost use Rattle.std.specs.Prelude.{◌≡◌, ◌+◌, ◌≤◌, ◌<◌, [], ◌∷◌, ◌++◌, length, IfOk, OnOk, OnErr, IsTrue, true, false, not, nat_lt, None};
+ghost use Rattle.dap_session.specs.SessionCalls.{fresh_state, over_debuggee};
+ghost use Rattle.std.specs.Prelude.{◌≡◌, ◌+◌, ◌≤◌, ◌<◌, [], ◌∷◌, ◌++◌, length, IfOk, IsTrue, true, false, not, nat_lt, None};
 ghost use Rattle.std.specs.Option.{option_copied};
 ghost use Rattle.dap_outbox.specs.Outbox.{IsReady};
 ghost use Rattle.dap_tables.specs.Outstanding.{without, with_mark, contains_seq, kept_unparked, unparked_ones, IsOrderlyRequests};
 ghost use Rattle.dap_tables.specs.References.{target_of};
 ghost use Rattle.dap_tables.specs.SourceMap.{count};
 ghost use Rattle.dap_query.specs.Queries.{object_of};
-ghost use Rattle.dap_plan.specs.Session.{fresh_session, own_requests, numbers_of};
+ghost use Rattle.dap_plan.specs.Session.{own_requests, numbers_of};
 ghost use Rattle.dap_debuggee.specs.Laws.{is_short};
 ghost use Rattle.dap_debuggee.specs.Shown.{to_start, to_resume, to_pause, to_poll, to_end, done, happened};
 
@@ -66,7 +67,7 @@ impl<D: Debuggee + Drop> Session<D> {
 
     /// A fresh session.
     pub fn open(alloc: Global, limits: Limits, debuggee: D) -> Result<Session<D>, AllocError>
-        ensures { IfOk result (λ state. state ≡ record { session = fresh_session limits; debuggee = debuggee }) }
+        ensures { IfOk result (λ state. state ≡ fresh_state limits debuggee) }
     {
         let kept = Outstanding::open(alloc, limits.requests())?;
         let breakpoints = Breakpoints::open(alloc, limits.breakpoints())?;
@@ -337,7 +338,7 @@ impl<D: HasMail + Drop> Session<D> {
     /// Exchanges the debuggee's mail: it has what is given then, and what it had is handed out. It takes no memory.
     pub fn exchange(&mut self, given: D::Mail) -> D::Mail
         ensures out { result ≡ D.mail self.old.debuggee }
-        ensures put { self.new ≡ record self.old { debuggee = D.with_mail given self.old.debuggee } }
+        ensures put { self.new ≡ over_debuggee (D.with_mail given self.old.debuggee) self.old }
     {
         self.debuggee.exchange(given)
     }

@@ -1,17 +1,17 @@
 //! What comes of a message that is delivered.
-ghost use Rattle.std.specs.Prelude.{◌≡◌, ◌+◌, ◌≤◌, [], ◌∷◌, length, IfOk, IfErr, IfSome, IfNone, IsErrOf, OnOk, OnErr, Some, true, false, IsTrue};
+ghost use Rattle.dap_session.specs.SessionCalls.{AddsIfTaken, LeavesSession, StaysUnasked, MayTakeMemory, RefusesTaking};
+ghost use Rattle.std.specs.Prelude.{◌≡◌, ◌+◌, ◌≤◌, [], ◌∷◌, length, IfOk, IfErr, IsErrOf, OnOk, OnErr, Some, true, false, IsTrue};
 ghost use Rattle.dap_plan.specs.Session.{numbers_of};
 ghost use Rattle.dap_command.specs.Command.{command_named};
 ghost use Rattle.dap_tables.specs.Outstanding.{contains_seq};
 ghost use Rattle.dap_decision.specs.Failures.{of_known};
 ghost use Rattle.dap_outbox.specs.Draft.{reply, failure, plain_success};
 ghost use Rattle.dap_body.specs.declared.failure.Failure.TheVariants.{Cancelled};
-ghost use Rattle.dap_plan.specs.Handling.{some_plan};
-ghost use Rattle.dap_plan.specs.SessionState.{IsUnasked, MadeBy, HasTaken, NotTaken, LacksRoom, NamesNone, NamesOne, AppendsSome};
+ghost use Rattle.dap_plan.specs.SessionState.{MadeBy, HasTaken, NotTaken, LacksRoom, NamesNone, NamesOne};
 ghost use Rattle.dap_outbox.specs.Outbox.{Holds, answer_of, IsReady};
 ghost use Rattle.dap_decision.specs.Table.{is_phase};
 ghost use Rattle.dap_decision.specs.declared.phase.Phase.TheVariants.{Ended};
-ghost use Rattle.dap_plan.specs.Taking.{after_answering_at_once, after_keeping, after_cancel_request, after_cancel, id_in, is_cancel, may_take_memory, takes, takes_request};
+ghost use Rattle.dap_plan.specs.Taking.{after_answering_at_once, after_keeping, after_cancel_request, after_cancel, id_in, is_cancel, takes, takes_request};
 
 use crate::session::{Session, give_back};
 use dap_body::Failure;
@@ -63,6 +63,7 @@ fn entry_of(seq: u64, command: &Text, arguments: &Option<Tree>) -> Result<Entry,
 }
 
 impl<D: Debuggee + Drop> Session<D> {
+    ghost use Rattle.dap_plan.specs.declared.fault.AdapterFault.TheVariants.{OutOfMemory};
     ghost use Rattle.dap_plan.specs.declared.fault.AdapterFault.{AdapterFault};
 
     /// Answers a request that is not kept.
@@ -260,9 +261,9 @@ impl<D: Debuggee + Drop> Session<D> {
     ) -> Result<(), AdapterFault>
         requires ready { IsReady out.old (numbers_of self.old.session) }
         ensures taken { OnOk result (HasTaken D.follows (takes message.now self.old.session) self.old self.new out.new.bytes) }
-        ensures refused { IfErr result (λ fault. NotTaken fault (takes message.now self.old.session)) }
-        ensures unasked { OnErr result (IsUnasked (some_plan (takes message.now self.old.session)) self.old.debuggee self.new.debuggee) }
-        ensures memory { IsErrOf result AdapterFault.OutOfMemory → may_take_memory message.now.kind self.old.session.phase ≡ true }
+        ensures refused { IfErr result (RefusesTaking message.now self.old) }
+        ensures unasked { OnErr result (StaysUnasked message.now self.old self.new) }
+        ensures memory { IsErrOf result OutOfMemory → MayTakeMemory message.now self.old }
         ensures err { OnErr result (self.new.session ≡ self.old.session) }
         ensures limits { self.new.session.limits ≡ self.old.session.limits }
         ensures before { out.new.before ≡ out.old.before }
@@ -293,11 +294,11 @@ impl<D: Debuggee + Drop> Session<D> {
         message: &Message,
         out: &mut Vec<u8>,
     ) -> Result<(), AdapterFault>
-        ensures taken { OnOk result (AppendsSome (λ bytes. HasTaken D.follows (takes message.now self.old.session) self.old self.new bytes) out.old.items out.new.items) }
-        ensures refused { IfErr result (λ fault. NotTaken fault (takes message.now self.old.session)) }
-        ensures unasked { OnErr result (IsUnasked (some_plan (takes message.now self.old.session)) self.old.debuggee self.new.debuggee) }
-        ensures memory { IsErrOf result AdapterFault.OutOfMemory → may_take_memory message.now.kind self.old.session.phase ≡ true }
-        ensures err { OnErr result ((self.new.session ≡ self.old.session) × (out.new.items ≡ out.old.items)) }
+        ensures taken { AddsIfTaken D.follows message.now self.old self.new out.old out.new result }
+        ensures refused { IfErr result (RefusesTaking message.now self.old) }
+        ensures unasked { OnErr result (StaysUnasked message.now self.old self.new) }
+        ensures memory { IsErrOf result OutOfMemory → MayTakeMemory message.now self.old }
+        ensures err { OnErr result (LeavesSession self.old self.new out.old out.new) }
         ensures limits { self.new.session.limits ≡ self.old.session.limits }
     {
         let mut outbox = self.outbox_behind(alloc, out);

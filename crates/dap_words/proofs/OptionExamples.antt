@@ -2,31 +2,31 @@
 use Rattle.std.proofs.Common.{◌≡◌, [], codes, refl, Some, None, length}
 use Rattle.dap_frame.specs.declared.limits.LimitFault.TheVariants.{Header, Seq}
 use Rattle.std.specs.Fmt.{digits as decimal_digits}
-use Rattle.dap_words.specs.Options.{number_in, text_of_option}
+use Rattle.dap_words.specs.Options.{number_of_text, text_of_option}
 use Rattle.dap_words.specs.CommandLine.{show_rules, host_rules, limit_rules}
 
-digits : number_in (codes "8192") ≡ Some 8192
+digits : number_of_text (codes "8192") ≡ Some 8192
 digits = refl
 
-plus : number_in (codes "+7") ≡ Some 7
+plus : number_of_text (codes "+7") ≡ Some 7
 plus = refl
 
-leading_zeros : number_in (codes "007") ≡ Some 7
+leading_zeros : number_of_text (codes "007") ≡ Some 7
 leading_zeros = refl
 
-minus : number_in (codes "-7") ≡ None
+minus : number_of_text (codes "-7") ≡ None
 minus = refl
 
-no_digit : number_in (codes "7k") ≡ None
+no_digit : number_of_text (codes "7k") ≡ None
 no_digit = refl
 
-nothing : number_in [] ≡ None
+nothing : number_of_text [] ≡ None
 nothing = refl
 
-greatest : number_in (codes "18446744073709551615") ≡ Some 18446744073709551615
+greatest : number_of_text (codes "18446744073709551615") ≡ Some 18446744073709551615
 greatest = refl
 
-too_great : number_in (codes "18446744073709551616") ≡ None
+too_great : number_of_text (codes "18446744073709551616") ≡ None
 too_great = refl
 
 of_a_header : text_of_option Header ≡ codes "Greatest length of a header block, 32 to 65536 [default: 8192]"

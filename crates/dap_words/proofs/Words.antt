@@ -7,32 +7,32 @@ use Rattle.std.proofs.lemmas.List.Splits.{slice_split-cons_yes, slice_split-cons
 use Rattle.std.proofs.lemmas.List.FromFn.{length-enumerate_from, get_or-enumerate_from}
 use Rattle.std.proofs.lemmas.Simd.{map-map}
 use Rattle.std.proofs.lemmas.List.{map-append, length-map}
-use Rattle.dap_words.specs.Layout.{is_blank, words}
+use Rattle.dap_words.specs.Layout.{is_between_words, words}
 
 onto_first-append : (x : ℕ) (parts more : List (List ℕ)) → 0 < length parts → onto_first x (parts ++ more) ≡ onto_first x parts ++ more
 onto_first-append x [] more l = absurd (omega arith)
 onto_first-append x (part ∷ parts) more l = refl
 
 -- a blank ends the parts before it
-parts_at_blank : (before after : List ℕ) (c : ℕ) → is_blank c ≡ true
-    → slice_split is_blank (before ++ c ∷ after) ≡ slice_split is_blank before ++ slice_split is_blank after
-parts_at_blank [] after c blank = slice_split-cons_yes is_blank c after blank
-parts_at_blank (x ∷ xs) after c blank = go (parts_at_blank xs after c blank) (is_blank x) refl
+parts_at_blank : (before after : List ℕ) (c : ℕ) → is_between_words c ≡ true
+    → slice_split is_between_words (before ++ c ∷ after) ≡ slice_split is_between_words before ++ slice_split is_between_words after
+parts_at_blank [] after c blank = slice_split-cons_yes is_between_words c after blank
+parts_at_blank (x ∷ xs) after c blank = go (parts_at_blank xs after c blank) (is_between_words x) refl
   where
-    go : slice_split is_blank (xs ++ c ∷ after) ≡ slice_split is_blank xs ++ slice_split is_blank after → (b : Bool) → is_blank x ≡ b
-        → slice_split is_blank ((x ∷ xs) ++ c ∷ after) ≡ slice_split is_blank (x ∷ xs) ++ slice_split is_blank after
-    go rest true e = slice_split-cons_yes is_blank x (xs ++ c ∷ after) e
+    go : slice_split is_between_words (xs ++ c ∷ after) ≡ slice_split is_between_words xs ++ slice_split is_between_words after → (b : Bool) → is_between_words x ≡ b
+        → slice_split is_between_words ((x ∷ xs) ++ c ∷ after) ≡ slice_split is_between_words (x ∷ xs) ++ slice_split is_between_words after
+    go rest true e = slice_split-cons_yes is_between_words x (xs ++ c ∷ after) e
         ∙ ap (λ parts. [] ∷ parts) rest
-        ∙ ap (λ parts. parts ++ slice_split is_blank after) (sym (slice_split-cons_yes is_blank x xs e))
-    go rest false e = slice_split-cons_no is_blank x (xs ++ c ∷ after) e
+        ∙ ap (λ parts. parts ++ slice_split is_between_words after) (sym (slice_split-cons_yes is_between_words x xs e))
+    go rest false e = slice_split-cons_no is_between_words x (xs ++ c ∷ after) e
         ∙ ap (onto_first x) rest
-        ∙ onto_first-append x (slice_split is_blank xs) (slice_split is_blank after) (omega (arith, length-slice_split is_blank xs))
-        ∙ ap (λ parts. parts ++ slice_split is_blank after) (sym (slice_split-cons_no is_blank x xs e))
+        ∙ onto_first-append x (slice_split is_between_words xs) (slice_split is_between_words after) (omega (arith, length-slice_split is_between_words xs))
+        ∙ ap (λ parts. parts ++ slice_split is_between_words after) (sym (slice_split-cons_no is_between_words x xs e))
 
 -- a blank ends a word
-pub words_at_blank : (before after : List ℕ) (c : ℕ) → is_blank c ≡ true → words (before ++ c ∷ after) ≡ words before ++ words after
+pub words_at_blank : (before after : List ℕ) (c : ℕ) → is_between_words c ≡ true → words (before ++ c ∷ after) ≡ words before ++ words after
 words_at_blank before after c blank = ap (filter (λ word. nat_lt 0 (length word))) (parts_at_blank before after c blank)
-    ∙ filter-append (λ word. nat_lt 0 (length word)) (slice_split is_blank before) (slice_split is_blank after)
+    ∙ filter-append (λ word. nat_lt 0 (length word)) (slice_split is_between_words before) (slice_split is_between_words after)
 
 -- spaces before a text add no word
 words_after_spaces : (count : ℕ) (after : List ℕ) → words (replicate count 32 ++ after) ≡ words after
@@ -47,7 +47,7 @@ words_in_next_line before word count =
     ap words joined ∙ words_at_blank before (replicate count 32 ++ word) 10 refl ∙ ap (λ more. words before ++ more) (words_after_spaces count word)
 
 -- nor does a blank
-pub words_behind : (before word : List ℕ) (c : ℕ) → is_blank c ≡ true → words (before ++ (c ∷ []) ++ word) ≡ words before ++ words word
+pub words_behind : (before word : List ℕ) (c : ℕ) → is_between_words c ≡ true → words (before ++ (c ∷ []) ++ word) ≡ words before ++ words word
 words_behind before word c blank = ap words (append_assoc before (c ∷ []) word) ∙ words_at_blank before word c blank
 
 joined_more : (c : ℕ) (parts : List (List ℕ)) (part : List ℕ) → 0 < length parts
@@ -57,7 +57,7 @@ joined_more c (x ∷ []) part l = refl
 joined_more c (x ∷ y ∷ more) part l = ap (λ text. x ++ c ∷ text) (joined_more c (y ∷ more) part (omega arith)) ∙ sym (append_assoc x (c ∷ join_with_byte c (y ∷ more)) (c ∷ part))
 
 -- one part more, behind a blank
-words_of_more : (c : ℕ) (before : List ℕ) (parts : List (List ℕ)) (part : List ℕ) → is_blank c ≡ true → 0 < length parts
+words_of_more : (c : ℕ) (before : List ℕ) (parts : List (List ℕ)) (part : List ℕ) → is_between_words c ≡ true → 0 < length parts
     → words (before ++ join_with_byte c (parts ++ part ∷ [])) ≡ words (before ++ join_with_byte c parts) ++ words part
 words_of_more c before parts part blank l = ap (λ text. words (before ++ text)) (joined_more c parts part l)
     ∙ ap words (sym (append_assoc before (join_with_byte c parts) (c ∷ part)))
@@ -77,7 +77,7 @@ is_not_empty [] x e = cc
 is_not_empty (y ∷ ys) x e = cc
 
 -- one item more, whose part is behind a blank
-pub words_of_next : {X : Type 0} (c : ℕ) (before : List ℕ) (v : X → List ℕ) (xs : List X) (x : X) → is_blank c ≡ true → (length xs ≡ 0 → ⊥)
+pub words_of_next : {X : Type 0} (c : ℕ) (before : List ℕ) (v : X → List ℕ) (xs : List X) (x : X) → is_between_words c ≡ true → (length xs ≡ 0 → ⊥)
     → words (before ++ join_with_byte c (map v (xs ++ x ∷ []))) ≡ words (before ++ join_with_byte c (map v xs)) ++ words (v x)
 words_of_next c before v xs x blank some =
     let l : 0 < length (map v xs) = omega (arith, length-map xs v, some) in

@@ -53,13 +53,13 @@ usual_line = 16777218
 -- ---- what a parse found
 
 -- the number that a text writes in decimal digits, where 64 bits hold it
-abbrev pub number_in : List ℕ → Option ℕ
-number_in text = let digits = without_leading_plus text in
+abbrev pub number_of_text : List ℕ → Option ℕ
+number_of_text text = let digits = without_leading_plus text in
     if is_numeral digits && nat_lt (digits_value 10 digits) (2 ^ 64) then Some (digits_value 10 digits) else None
 
 -- the number that the option of this name gives, else its usual one
 abbrev pub number_given : ArgMatches → List ℕ → ℕ → ℕ
-number_given matches name usual = unwrap_or (option_and_then number_in (one_text (found_of matches) name)) usual
+number_given matches name usual = unwrap_or (option_and_then number_of_text (one_text (found_of matches) name)) usual
 
 abbrev pub longest_line_given : ArgMatches → ℕ
 longest_line_given matches = number_given matches (codes "max-line") usual_line
