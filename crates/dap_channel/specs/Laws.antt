@@ -1,6 +1,7 @@
 -- Laws of logs: what calls come to that are made one after the other.
 use Rattle.std.specs.Prelude.{◌≡◌, ◌+◌, ℕ, List, ◌++◌, IsTrue, Option}
 use Rattle.std.specs.Io.KnownBytes.{Appends, Consumes, IsAtEnd}
+use Rattle.dap_channel.specs.declared.channel.Pipe.{Pipe}
 use Rattle.dap_channel.specs.Channel.{IoEvent, Ran, bytes_read, bytes_written, reads, is_flushed, MayGoOn, HasEnded, HasWriteFailed, Pipes, Inputs}
 
 -- calls, and then others
@@ -21,6 +22,10 @@ pub record PipesTellTheirBytes {P : Type 0} (left held : P → Option (List ℕ)
   pub appended : (c d : P) (log : List IoEvent) → Ran (λ p e q. Pipes (left p) (held p) e (left q) (held q)) c log d → Appends (held c) (held d) (bytes_written log)
   -- a reader that had room and gave nothing is at its end
   pub ended : (c d : P) (log : List IoEvent) → Ran (λ p e q. Pipes (left p) (held p) e (left q) (held q)) c log d → HasEnded log → IsAtEnd (left d)
+
+-- of a reader and a writer, by what the one has left, and the other holds
+abbrev pub PipeTellsItsBytes : {R W : Type 0} → (R → Option (List ℕ)) → (W → Option (List ℕ)) → Type 0
+PipeTellsItsBytes {R} {W} left held = PipesTellTheirBytes (λ (p : Pipe R W). left p.reader) (λ (p : Pipe R W). held p.writer)
 
 -- what the calls of a log read is what a reader knows of it
 pub record InputsTellTheirBytes {P : Type 0} (left : P → Option (List ℕ)) : Type 0 where

@@ -1,5 +1,5 @@
 -- Bytes that went out by calls of a channel. That a count stays at its greatest value is this profile's choice.
-use Rattle.std.specs.Prelude.{◌≡◌, ℕ, List, IsTrue, min}
+use Rattle.std.specs.Prelude.{◌≡◌, ℕ, ◌+◌, ◌≤◌, List, IsTrue, length, min, take}
 use Rattle.dap_channel.specs.Channel.{IoEvent, Ran, bytes_written, reads, is_flushed, HasFlushed, MayGoOn, HasWriteFailed}
 
 -- a count of bytes, which stays at its greatest value
@@ -35,3 +35,7 @@ pub record WritesShort {C : Type 0} (goes : C → IoEvent → C → Type 0) (c d
   pub no_reads : reads log ≡ 0
   pub written : bytes_written log ≡ bytes
   pub failed : HasWriteFailed log
+
+-- a front of the bytes went out, behind so many others, and the count is that of all
+abbrev pub SendsFront : {C : Type 0} → (C → IoEvent → C → Type 0) → C → C → List ℕ → ℕ → ℕ → Type 0
+SendsFront goes before after bytes written n = (out : ℕ) × (out ≤ length bytes) × (n ≡ saturating_count (written + out)) × WritesShort goes before after (take out bytes)

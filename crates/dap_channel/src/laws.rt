@@ -1,6 +1,5 @@
 //! Laws of the definitions, each on a function with nothing to run.
-ghost use Rattle.dap_channel.specs.Laws.{CallsAddUp, PipesTellTheirBytes, InputsTellTheirBytes};
-ghost use Rattle.dap_channel.specs.declared.channel.Pipe.{Pipe};
+ghost use Rattle.dap_channel.specs.Laws.{CallsAddUp, PipeTellsItsBytes, InputsTellTheirBytes};
 ghost use Rattle.dap_channel.specs.declared.channel.Input.{Input};
 
 use crate::channel::Channel;
@@ -13,7 +12,7 @@ pub fn calls_add_up<C: Channel>()
 
 /// What the calls of a pipe read and write is what its reader and its writer know of it.
 pub fn pipes_tell_their_bytes<R: Read, W: Write>()
-    ensures { PipesTellTheirBytes (λ (p : Pipe R W). R.remaining p.reader) (λ (p : Pipe R W). W.contents p.writer) }
+    ensures { PipeTellsItsBytes R.remaining W.contents }
 {}
 
 /// What the calls of an input read is what its reader knows of it.

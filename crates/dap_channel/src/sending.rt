@@ -1,7 +1,7 @@
 //! Bytes to a channel, and how many went out.
 
-ghost use Rattle.std.specs.Prelude.{◌≡◌, ℕ, ◌+◌, ◌<◌, ◌≤◌, length, take, OnOk, IfOk, IfErr};
-ghost use Rattle.dap_channel.specs.Sent.{Flushes, Writes, WritesShort, Sends, saturating_count};
+ghost use Rattle.std.specs.Prelude.{◌≡◌, ◌+◌, ◌<◌, length, take, OnOk, IfOk, IfErr};
+ghost use Rattle.dap_channel.specs.Sent.{Flushes, Writes, WritesShort, SendsFront, Sends, saturating_count};
 
 use crate::channel::Channel;
 
@@ -33,7 +33,7 @@ pub fn send<C: Channel>(channel: &mut C, bytes: &[u8], written: u64) -> Result<u
     ensures count { IfOk result (λ n. n ≡ saturating_count (written + length bytes.now)) }
 
     // What went out is a front of the bytes.
-    ensures short { IfErr result (λ n. (out : ℕ) × (out ≤ length bytes.now) × (n ≡ saturating_count (written + out)) × WritesShort C.goes channel.old channel.new (take out bytes.now)) }
+    ensures short { IfErr result (SendsFront C.goes channel.old channel.new bytes.now written) }
 {
     if let Err(n) = write_counted(channel, bytes) {
         return Err(written.saturating_add(n as u64));

@@ -1,5 +1,6 @@
 -- What the calls of a client do, as their contracts say it.
-use Rattle.std.specs.Prelude.{◌≡◌, ◌≢◌, ◌⊎◌, ◌<◌, ℕ, List, [], ◌∷◌, ◌++◌, length, take, drop, Option, Some, None, Ok, Err, is_some, option_map}
+use Rattle.std.specs.Prelude.{◌≡◌, ◌≢◌, ◌⊎◌, ◌<◌, ℕ, List, [], ◌∷◌, ◌++◌, length, take, drop, Option, Some, None, Ok, Err, is_some, option_map, Vec}
+use Rattle.std.specs.Borrow.{Bor}
 use Rattle.std.specs.List.{slice_get}
 use Rattle.dap_frame.specs.Feeds.{Gathers}
 use Rattle.dap_frame.specs.Intake.{Intake}
@@ -133,6 +134,10 @@ pub record TakesNext (old : ClientState) (piece before : List ℕ) (message : Op
   pub takes_it : Takes old piece got message new
   pub left_is : left ≡ drop got.used piece
   pub appended : after ≡ before ++ got.bytes.items
+
+-- the same of a piece that has bytes, and of a buffer
+abbrev pub NextIs : {A : Type 0} → ClientState → Bor (List ℕ) → Vec ℕ A → ClientState → Bor (List ℕ) → Vec ℕ A → Option Message → Type 0
+NextIs old piece before new left after message = 0 < length piece.now → TakesNext old piece.now before.items message new left.now after.items
 
 -- memory was refused for what is to be written: the message was taken, and is not delivered
 pub record LosesMessage (old : ClientState) (piece : List ℕ) (fault : ClientFault) (new : ClientState) : Type 0 where

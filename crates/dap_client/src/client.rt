@@ -3,7 +3,7 @@ ghost use Rattle.std.specs.Prelude.{◌≡◌, ◌≢◌, ◌+◌, ◌<◌, ◌�
 ghost use Rattle.dap_frame.specs.Closed.{StaysClosed};
 ghost use Rattle.dap_history.specs.History.{Came, Went, waiting};
 ghost use Rattle.dap_call.specs.PlainCall.{is_plain_call};
-ghost use Rattle.dap_client.specs.Calls.{refusal_of, answer_refusal_of, NotSent, NotAnswered, PieceNotTaken, NextNotGiven, Takes, TakeRefused, TakesNext, request_bytes, client_after_sending, IsRequestReadBack, GoesOnBySending, answer_bytes, client_after_answering, IsAnswerReadBack, GoesOnByAnswering, oldest_asked, Shortens, WhereIdle};
+ghost use Rattle.dap_client.specs.Calls.{refusal_of, answer_refusal_of, NotSent, NotAnswered, PieceNotTaken, NextNotGiven, Takes, TakeRefused, NextIs, request_bytes, client_after_sending, IsRequestReadBack, GoesOnBySending, answer_bytes, client_after_answering, IsAnswerReadBack, GoesOnByAnswering, oldest_asked, Shortens, WhereIdle};
 ghost use Rattle.dap_client.specs.PrivateReceives.{HasReceived, IsBy};
 ghost use Rattle.dap_reader.specs.Reader.{ShortensWith};
 ghost use Rattle.dap_reader.specs.declared.fault.ReadFault.{ReadFault};
@@ -258,7 +258,7 @@ impl Client {
         piece: &mut &[u8],
         out: &mut Vec<u8>,
     ) -> Result<Option<Message>, ClientFault>
-        ensures gives { IfOk result (λ message. 0 < length piece.old.now → TakesNext self.old piece.old.now out.old.items message self.new piece.new.now out.new.items) }
+        ensures gives { IfOk result (NextIs self.old piece.old out.old self.new piece.new out.new) }
         ensures progress { OnOk result (Shortens piece.old.now piece.new.now) }
         ensures some { IfOk result (ShortensWith piece.old.now piece.new.now) }
         ensures none { WhereIdle self.old piece.old.now (result ≡ Ok None) }

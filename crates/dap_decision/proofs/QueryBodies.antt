@@ -1,5 +1,5 @@
 -- Each served query has the body that its command's row says. A command without a line here is served by no query.
-use Rattle.std.proofs.Common.{◌≡◌, ℕ, List, [], Bool, true, Option, Some, None, Result, Ok, Err, refl, sym, ap, true≢false}
+use Rattle.std.proofs.Common.{◌≡◌, ℕ, List, [], true, Option, Some, None, Result, Ok, Err, sym, ap, true≢false}
 use Rattle.std.specs.Prelude.{◌-◌, length, is_some, map, option_and_then}
 use Rattle.serde_json.specs.Data.{Data}
 use Rattle.dap_body.specs.declared.failure.Failure.{Failure}

@@ -3,6 +3,7 @@ use Rattle.std.specs.Prelude.{◌≡◌, Some, None, Ok}
 use Rattle.dap_call.specs.declared.call.Call.{Call}
 use Rattle.dap_command.specs.declared.command.Command.{Command}
 use Rattle.dap_debuggee.specs.Shown.{Shown}
+use Rattle.dap_query.specs.Queries.{QueryState}
 use Rattle.dap_tables.specs.References.{LiveReferences}
 use Rattle.dap_tables.specs.declared.entry.Entry.{Entry}
 use Rattle.dap_decision.specs.declared.decision.Decision.{Decision}
@@ -24,3 +25,7 @@ pub record IsServed (view : Shown) (phase : Phase) (refs : LiveReferences) (r : 
 abbrev pub Decides : Shown → Phase → LiveReferences → Entry → Decision → Type 0
 Decides view phase refs r (Refuses f) = refusal_in view phase refs r ≡ Some f
 Decides view phase refs r (Serves e asked) = IsServed view phase refs r e asked
+
+-- the same, with the references that are live
+abbrev pub DecidesIn : Shown → Phase → QueryState → Entry → Decision → Type 0
+DecidesIn view phase queries r decision = Decides view phase queries.references r decision

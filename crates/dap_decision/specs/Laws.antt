@@ -1,6 +1,6 @@
 -- Each query is answered as the row of its command says.
 -- Specification, the types whose names end in "Response".
-use Rattle.std.specs.Prelude.{◌≡◌, List, Bool, true, false, is_some, Ok}
+use Rattle.std.specs.Prelude.{◌≡◌, Bool, true, false, is_some, Ok}
 use Rattle.std.specs.List.{list_any}
 use Rattle.dap_call.specs.CallTree.{command_of}
 use Rattle.dap_call.specs.declared.call.Call.{Call}

@@ -8,7 +8,7 @@ ghost use Rattle.dap_call.specs.Argument.{Gives};
 ghost use Rattle.dap_call.specs.Call.{takes_memory};
 ghost use Rattle.dap_call.specs.declared.call.CallFault.{CallFault};
 ghost use Rattle.dap_tables.specs.References.{is_of_kind};
-ghost use Rattle.dap_decision.specs.Decisions.{Decides};
+ghost use Rattle.dap_decision.specs.Decisions.{DecidesIn};
 ghost use Rattle.dap_decision.specs.Table.{is_never_served, effect_in};
 
 use crate::decision::Decision;
@@ -188,7 +188,7 @@ pub fn decide<D: Debuggee>(
     debuggee: &D,
     request: &Entry,
 ) -> Result<Decision, AllocError>
-    ensures { IfOk result (λ d. Decides (D.shown debuggee.now) phase queries.now.references request.now d) }
+    ensures { IfOk result (DecidesIn (D.shown debuggee.now) phase queries.now request.now) }
 {
     let named = by_name(phase, Command::of_name(request.command.as_str()));
     let command = match named {

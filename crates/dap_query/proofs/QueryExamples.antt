@@ -8,9 +8,9 @@ use Rattle.dap_body.specs.declared.failure.Failure.TheVariants.{TooManyReference
 use Rattle.dap_debuggee.specs.Shown.{window}
 use Rattle.dap_query.specs.Bodies.{reference_of, numbered_source, source_of_frame, no_source, page, line_shown, column_shown, protocol_frame, protocol_sources}
 use Rattle.dap_query.specs.Queries.{object_of, usual_options}
-use Rattle.dap_query.specs.References.{intern_each, targets_named, with_targets, references_read}
+use Rattle.dap_query.specs.References.{intern_each, targets_named, with_targets}
 use Rattle.dap_query.specs.declared.options.Options.{Options}
-use Rattle.dap_tables.specs.References.{LiveReferences, no_references, frame_of, holder_of}
+use Rattle.dap_tables.specs.References.{no_references, frame_of, holder_of}
 
 -- ---- sources
 

@@ -1,22 +1,20 @@
 -- Each query, once: what it names, and that what its body gives is live. The laws are read off it.
-use Rattle.std.proofs.Common.{◌≡◌, ℕ, ◌-◌, List, [], ◌∷◌, map, Bool, true, false, Option, Some, None, Result, Ok, Err, length, refl, subst}
+use Rattle.std.proofs.Common.{◌≡◌, ℕ, ◌-◌, List, [], map, Bool, false, Option, Some, None, Result, Ok, Err, length, refl, subst}
 use Rattle.std.specs.Prelude.{is_none, option_and_then}
 use Rattle.serde_json.specs.Data.{Data}
-use Rattle.dap_body.specs.ResponseBody.{source_body, threads_body, loaded_sources_body}
-use Rattle.dap_call.specs.declared.call.Call.{Call}
+use Rattle.dap_body.specs.ResponseBody.{source_body}
 use Rattle.dap_call.specs.declared.call.Call.TheVariants as call
 use Rattle.dap_call.specs.CallTree.{command_of}
 use Rattle.dap_command.specs.declared.command.Command.{Command}
 use Rattle.dap_command.specs.declared.command.Command.TheVariants as command
 use Rattle.dap_body.specs.declared.failure.Failure.{Failure}
-use Rattle.dap_debuggee.specs.Shown.{Shown, window}
-use Rattle.dap_tables.specs.Given.{references_given_in}
+use Rattle.dap_debuggee.specs.Shown.{window}
 use Rattle.dap_tables.specs.References.{LiveReferences}
 use Rattle.dap_tables.specs.declared.target.Target.{Target}
 use Rattle.dap_query.specs.Bodies.{protocol_thread, protocol_sources, QueryAnswer, QueryResult, query_result, result_without_references, unless_refused, scopes_result, evaluate_result, page, frame_objects, scope_objects, variable_objects, value_objects}
-use Rattle.dap_query.specs.Laws.{AreFew, IsSoundAnswer, EachAnswerIsSound, GivesNumbers, IsAnsweredOrRefused, is_refused, is_answered, EachQueryIsAnsweredOrRefused}
+use Rattle.dap_query.specs.Laws.{IsSoundAnswer, EachAnswerIsSound, GivesNumbers, IsAnsweredOrRefused, is_refused, is_answered, EachQueryIsAnsweredOrRefused}
 use Rattle.dap_query.specs.Queries.{QueryState, object_of}
-use Rattle.dap_query.specs.References.{AreLive, intern_each, targets_named, and_then}
+use Rattle.dap_query.specs.References.{intern_each, targets_named, and_then}
 use Rattle.dap_query.specs.Refused.{refuses_query, objects_in, objects_named}
 use Rattle.dap_query.proofs.Interned.{interned-each}
 use Rattle.dap_query.proofs.LiveBodies.{frames-give, scopes-give, variables-give, value-gives, threads-give, source-gives, sources-give}

@@ -2,7 +2,7 @@
 -- Specification, "InitializeRequestArguments". That a part of it counts, and the limits, are this profile's choices.
 use Rattle.std.specs.Prelude.{◌≡◌, ℕ, true, false, Option, option_map}
 use Rattle.dap_frame.specs.Settings.{Settings}
-use Rattle.dap_tables.specs.References.{LiveReferences, ReferenceTable, no_references, target_of}
+use Rattle.dap_tables.specs.References.{LiveReferences, ReferenceTable, no_references, target_of, without_references}
 use Rattle.dap_query.specs.declared.options.Options.{Options}
 
 -- the limits of the adapter, what the client said of itself, and what is live
@@ -26,3 +26,7 @@ object_of refs number = option_map (λ t. t.object) (target_of refs number)
 pub record AreQueries (limits : Settings) (references : ReferenceTable) : Type 0 where
   pub room : references.room ≡ limits.references
   pub greatest : references.greatest ≡ limits.reference
+
+-- where all have died
+abbrev pub with_no_references : QueryState → QueryState
+with_no_references queries = record queries { references = without_references queries.references }

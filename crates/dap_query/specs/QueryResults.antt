@@ -1,5 +1,5 @@
 -- What a call that answers a query returns: its words for refusals, and for the numbers that are given for an answer.
-use Rattle.std.specs.Prelude.{◌≡◌, ◌+◌, ⊤, List, ◌++◌, Option, Result, Ok, Err}
+use Rattle.std.specs.Prelude.{◌≡◌, ⊤, List, ◌++◌, Option, Result, Ok, Err}
 use Rattle.serde_json.specs.Data.{Data}
 use Rattle.dap_json.specs.Steps.{Returns}
 use Rattle.dap_body.specs.Body.{data_in}
@@ -12,7 +12,9 @@ use Rattle.dap_tables.specs.References.{LiveReferences}
 use Rattle.dap_tables.specs.declared.target.Target.{Target}
 use Rattle.dap_query.specs.declared.no_answer.NoAnswer.{NoAnswer}
 use Rattle.dap_query.specs.declared.no_answer.NoAnswer.TheVariants.{Fails, OutOfMemory}
-use Rattle.dap_query.specs.Bodies.{QueryResult}
+use Rattle.dap_call.specs.declared.call.Call.{Call}
+use Rattle.dap_debuggee.specs.Shown.{Shown}
+use Rattle.dap_query.specs.Bodies.{QueryResult, query_result}
 use Rattle.dap_query.specs.Queries.{QueryState}
 
 -- ---- why there is no body
@@ -54,3 +56,7 @@ pub record AnswersWith (due : QueryResult) (body : Option Data) (references : Li
 abbrev pub IsQueryResult : Result (Option Body) NoAnswer → QueryResult → LiveReferences → Type 0
 IsQueryResult (Ok body) due references = AnswersWith due (data_in body) references
 IsQueryResult (Err fault) due references = Says fault due
+
+-- the answer to a call
+abbrev pub AnswersCall : Shown → Call → QueryState → QueryState → Result (Option Body) NoAnswer → Type 0
+AnswersCall view call old new result = IsQueryResult result (query_result view old call) new.references

@@ -1,6 +1,6 @@
 -- Which queries the debuggee refuses, and which objects an answer names.
 -- This profile's choice.
-use Rattle.std.specs.Prelude.{ℕ, ◌-◌, List, [], Bool, false, Option, Some, None, is_none, option_and_then}
+use Rattle.std.specs.Prelude.{◌-◌, List, [], Bool, false, Option, Some, None, is_none, option_and_then}
 use Rattle.dap_call.specs.declared.call.Call.{Call}
 use Rattle.dap_call.specs.declared.call.Call.TheVariants as call
 use Rattle.dap_tables.specs.declared.target.Target.{Target}

@@ -5,7 +5,7 @@ ghost use Rattle.dap_debuggee.specs.declared.answers.Variable.{Variable};
 ghost use Rattle.dap_body.specs.Body.{data_in};
 ghost use Rattle.dap_call.specs.declared.call.Call.{Call};
 ghost use Rattle.dap_query.specs.Bodies.{query_result, page};
-ghost use Rattle.dap_query.specs.QueryResults.{AnswersWith, IsQueryResult, OnlyGives};
+ghost use Rattle.dap_query.specs.QueryResults.{AnswersCall, AnswersWith, IsQueryResult, OnlyGives};
 
 use crate::bodies::{
     frames_named, holder_in, protocol_frames, protocol_scopes, protocol_sources, protocol_threads,
@@ -167,7 +167,7 @@ impl Queries {
         debuggee: &D,
         call: &Call,
     ) -> Result<Option<Body>, NoAnswer>
-        ensures told { IsQueryResult result (query_result (D.shown debuggee.now) self.old call.now) self.new.references }
+        ensures told { AnswersCall (D.shown debuggee.now) call.now self.old self.new result }
         ensures only { OnlyGives self.old self.new }
     {
         match call {
@@ -200,7 +200,7 @@ impl Queries {
         debuggee: &D,
         call: &Call,
     ) -> Result<Option<Body>, NoAnswer>
-        ensures told { IsQueryResult result (query_result (D.shown debuggee.now) self.old call.now) self.new.references }
+        ensures told { AnswersCall (D.shown debuggee.now) call.now self.old self.new result }
         ensures only { OnlyGives self.old self.new }
         ensures err { OnErr result (self.new ≡ self.old) }
     {

@@ -1,8 +1,8 @@
 //! What answers to queries are made with, beside the debuggee.
 ghost use Rattle.std.specs.Prelude.{◌≡◌, ◌≤◌, length, IfOk, IsOk};
 ghost use Rattle.std.specs.Option.{option_copied};
-ghost use Rattle.dap_query.specs.Queries.{fresh_queries, object_of};
-ghost use Rattle.dap_tables.specs.References.{back_to, target_of, without_references};
+ghost use Rattle.dap_query.specs.Queries.{fresh_queries, object_of, with_no_references};
+ghost use Rattle.dap_tables.specs.References.{back_to, target_of};
 
 use crate::options::Options;
 use dap_frame::Limits;
@@ -78,7 +78,7 @@ impl Queries {
 
     /// All references die.
     pub fn clear(&mut self)
-        ensures { self.new ≡ record self.old { references = without_references self.old.references } }
+        ensures { self.new ≡ with_no_references self.old }
     {
         self.references.clear();
     }

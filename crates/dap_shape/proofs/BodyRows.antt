@@ -1,5 +1,5 @@
 -- Which responses have a body, command by command.
-use Rattle.std.proofs.Common.{◌≡◌, true, refl, sym, true≢false}
+use Rattle.std.proofs.Common.{◌≡◌, true, refl}
 use Rattle.std.specs.Prelude.{is_some}
 use Rattle.dap_command.specs.Command.{name_of}
 use Rattle.dap_command.specs.Objects.{has_body}

@@ -1,5 +1,5 @@
 -- What was read of a message, member by member.
-use Rattle.std.proofs.Common.{◌≡◌, ◌≢◌, ℕ, List, codes, bytes_eq, false, Option, Some, None, option_map, refl, sym, ap, ◌∙◌, subst, true≢false}
+use Rattle.std.proofs.Common.{◌≡◌, ◌≢◌, ℕ, List, codes, bytes_eq, false, Option, Some, None, option_map, refl, sym, ◌∙◌, subst, true≢false}
 use Rattle.std.proofs.lemmas.Slice.Eq.{bytes_eq-Decides}
 use Rattle.serde_json.specs.Data.{Data, Members, put}
 use Rattle.serde_json.specs.Find.{get_member}
@@ -11,8 +11,8 @@ use Rattle.dap_envelope.specs.Heading.{Notes, NotesAll}
 use Rattle.dap_envelope.specs.ResponseReferences.{or_null}
 use Rattle.dap_command.specs.declared.gathering.GatheredReferences.{GatheredReferences}
 use Rattle.dap_envelope.specs.declared.heading.Noted.{Noted}
-use Rattle.dap_shape.specs.Faults.{fault_of, held_fault}
-use Rattle.dap_shape.specs.Shapes.{Row, inside, at_key}
+use Rattle.dap_shape.specs.Faults.{held_fault}
+use Rattle.dap_shape.specs.Shapes.{Row}
 use Rattle.dap_shape.specs.PrivateSound.{AreArguments, IsBody, IsRead}
 use Rattle.dap_shape.specs.declared.reading.Guess.{Guess}
 use Rattle.dap_shape.specs.declared.reading.Walked.{Walked}

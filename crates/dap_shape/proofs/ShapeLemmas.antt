@@ -9,24 +9,21 @@ use Rattle.dap_shape.specs.declared.fault.Inward.{Inward}
 use Rattle.std.specs.Ordering.{nat_cmp, match_ordering}
 use Rattle.std.specs.Cmp.Lexicographic.{slice_cmp}
 use Rattle.std.proofs.Math.Seq.{drop-cons}
-use Rattle.serde_json.specs.Data.{Data, null, boolean, number, string, array, object, Items, Members, no_members, member, depth, items_depth, members_depth}
-use Rattle.serde_json.specs.Find.{get, get_member, as_array, as_object}
+use Rattle.serde_json.specs.Data.{Data, null, boolean, number, string, array, object, Members, no_members, member, depth, items_depth, members_depth}
+use Rattle.serde_json.specs.Find.{get, get_member, as_object}
 use Rattle.serde_json.specs.View.{view, items_view}
 use Rattle.serde_json.specs.declared.value.Value.{Value}
 use Rattle.dap_json.specs.Field.{is_null, unless_null, tree_at}
-use Rattle.dap_shape.specs.Shapes.{Row, Fault, inside, at_key, at_place, missing, misfit}
+use Rattle.dap_shape.specs.Shapes.{Row, Fault, inside, at_key, missing}
 use Rattle.dap_shape.specs.Rows.{fields_of}
-use Rattle.dap_shape.specs.Faults.{bare_fault, or_else, row_fault, rows_fault, fault_of, items_fault, member_fault, row_named}
+use Rattle.dap_shape.specs.Faults.{or_else, row_fault, rows_fault, fault_of, member_fault, row_named}
 use Rattle.dap_shape.specs.Laws.{KeepsRow, SoundObjectsKeepTheirRows}
 use Rattle.dap_shape.specs.Seen.{row_seen, entry_seen, step_seen}
 use Rattle.dap_shape.specs.declared.shape.Entry.{Entry}
-use Rattle.dap_shape.specs.declared.shape.Scalar.{Scalar}
 use Rattle.dap_shape.specs.declared.shape.TypeName.{TypeName}
-use Rattle.dap_shape.specs.declared.shape.Kind.{Kind}
-use Rattle.dap_shape.specs.declared.shape.Kind.TheVariants.{Plain, Object}
+use Rattle.dap_shape.specs.declared.shape.Kind.TheVariants.{Object}
 use Rattle.dap_shape.specs.declared.shape.Shape.{Shape}
-use Rattle.dap_shape.specs.declared.shape.Shape.TheVariants.{One, Each}
-use Rattle.dap_shape.specs.declared.shape.Field.{Field}
+use Rattle.dap_shape.specs.declared.shape.Shape.TheVariants.{One}
 
 -- ---- what stands at a key
 

@@ -3,13 +3,10 @@ use Rattle.std.proofs.Common.{◌≡◌, ◌≢◌, ℕ, zero, suc, Result, Ok, 
 use Rattle.std.specs.Prelude.{map, not, ◌&&◌, ◌||◌, MatchOption, set, replicate}
 use Rattle.std.proofs.Math.Seq.{drop-cons}
 use Rattle.std.proofs.lemmas.Slice.Eq.{bytes_eq-Decides}
-use Rattle.serde_json.specs.Data.{Data, null, boolean, number, string, array, object, Items, item, Members, no_members, put}
+use Rattle.serde_json.specs.Data.{Data, object, Items, item, Members, no_members, put}
 use Rattle.serde_json.specs.Find.{get_member}
 use Rattle.serde_json.proofs.Views.{get_member-put, get_member-put_other}
 use Rattle.dap_json.specs.Field.{is_null, unless_null, tree_at}
-use Rattle.dap_json.specs.ObjectReader.{Describes}
-use Rattle.dap_json.specs.declared.object_reader.MemberValue.{MemberValue}
-use Rattle.dap_json.specs.declared.object_reader.MemberValue.TheVariants as passed
 use Rattle.dap_shape.specs.Shapes.{Row, Fault, inside, at_key, at_place, missing}
 use Rattle.dap_shape.specs.Faults.{or_else, row_fault, rows_fault, fault_of, items_fault}
 use Rattle.dap_shape.specs.PrivateSound.{names, are_apart, one_further, row_at, lacks_one, IsKept, AreKept, object_fault}

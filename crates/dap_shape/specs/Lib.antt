@@ -5,3 +5,4 @@ pub mod Sentences
 pub mod Seen
 pub mod Laws
 pub mod PrivateSound
+pub mod Headings

@@ -4,6 +4,8 @@ use Rattle.dap_envelope.specs.declared.message.Kind.{Kind as MessageKind}
 use Rattle.dap_envelope.specs.declared.message.Kind.TheVariants.{Request, Response, Event, Other}
 use Rattle.dap_shape.specs.Shapes.{Step, at_key, at_place, Wrong, absent, other_than, Fault}
 use Rattle.dap_shape.specs.Rows.{values_of}
+use Rattle.dap_shape.specs.Seen.{fault_seen}
+use Rattle.dap_shape.specs.declared.fault.ShapeFault.{ShapeFault}
 use Rattle.dap_shape.specs.declared.shape.Scalar.{Scalar}
 use Rattle.dap_shape.specs.declared.shape.Scalar.TheVariants.{Any, Text, Boolean, Whole, Number, WholeOrText, OneOf}
 use Rattle.dap_shape.specs.declared.shape.Kind.TheVariants.{Plain, Object}
@@ -52,3 +54,7 @@ wrong_text (other_than shape) = shape_text shape
 -- `response to stackTrace: body.stackFrames[0] has no line`
 abbrev pub sentence_of : MessageKind → Fault → List ℕ
 sentence_of kind fault = subject_of kind ++ (path_text fault.path ++ wrong_text fault.wrong)
+
+-- of a fault as the code has it
+abbrev pub fault_sentence : MessageKind → ShapeFault → List ℕ
+fault_sentence kind fault = sentence_of kind (fault_seen fault)

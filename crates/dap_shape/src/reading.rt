@@ -7,12 +7,11 @@ ghost use Rattle.serde_json.specs.Data.{Data, Members, no_members, put};
 ghost use Rattle.dap_json.specs.Field.{is_null, unless_null, tree_at};
 ghost use Rattle.dap_json.specs.ObjectReader.{Describes, IsRestOf, IsNext};
 ghost use Rattle.dap_command.specs.Gathered.{AreGivenBy};
-ghost use Rattle.dap_envelope.specs.Heading.{IsHeadingOf, IsKindOf};
-ghost use Rattle.dap_envelope.specs.Meaning.{Msg, MeansKind};
-ghost use Rattle.dap_envelope.specs.ResponseReferences.{AreGivenIn};
+ghost use Rattle.dap_envelope.specs.Heading.{IsKindOf};
+ghost use Rattle.dap_envelope.specs.Meaning.{MeansKind};
 ghost use Rattle.dap_envelope.specs.declared.message.Kind.{Kind as TheKind};
-ghost use Rattle.dap_envelope.specs.declared.message.Message.{Message};
 ghost use Rattle.dap_shape.specs.Faults.{row_named, held_fault, fault_in};
+ghost use Rattle.dap_shape.specs.Headings.{IsHeadingWithShape};
 ghost use Rattle.dap_shape.specs.Rows.{requests as request_rows, responses as response_rows, events as event_rows};
 ghost use Rattle.dap_shape.specs.Seen.{row_seen, entry_seen};
 ghost use Rattle.dap_shape.specs.PrivateSound.{rows_guessed, name_guessed, AreArguments, IsBody, IsRead};
@@ -256,7 +255,7 @@ pub fn read_heading_and_shape<'a>(
     given: &mut GatheredReferences,
     body: &'a [u8],
 ) -> Option<(Heading<'a>, bool)>
-    ensures { IfSome result (λ read. (m : Message) × Msg body.now m × IsHeadingOf read.0 m × AreGivenIn given.new m.kind × (IsTrue read.1 → fault_in m.kind ≡ None)) }
+    ensures { IfSome result (IsHeadingWithShape body.now given.new) }
 {
     let Ok(mut object_reader) = ObjectReader::open(body, scratch) else {
         return None;

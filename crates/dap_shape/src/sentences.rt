@@ -1,8 +1,7 @@
 //! A fault of a message in one sentence.
-ghost use Rattle.std.specs.Prelude.{◌≡◌, ◌∷◌, ◌++◌, [], ℕ, List, map, codes, decimal, flat_map, OnOk, IfOk, string_bytes};
-ghost use Rattle.dap_shape.specs.Rows.{values_of};
-ghost use Rattle.dap_shape.specs.Sentences.{subject_of, step_text, first_step_text, path_text, scalar_text, shape_text, wrong_text, sentence_of};
-ghost use Rattle.dap_shape.specs.Seen.{step_seen, wrong_seen, fault_seen};
+ghost use Rattle.std.specs.Prelude.{◌≡◌, ◌++◌, map, codes, decimal, flat_map, OnOk, IfOk, string_bytes};
+ghost use Rattle.dap_shape.specs.Sentences.{subject_of, step_text, first_step_text, path_text, scalar_text, shape_text, wrong_text, fault_sentence};
+ghost use Rattle.dap_shape.specs.Seen.{step_seen, wrong_seen};
 
 use crate::entries::values;
 use crate::fault::{Cause, Inward, ShapeFault};
@@ -132,7 +131,7 @@ fn push_cause(text: &mut String, cause: Cause) -> Result<(), AllocError>
 /// A fault of a message in one sentence, with no line feed: which message it is, the way to the value, and what is wrong
 /// with it, as in `response to stackTrace: body.stackFrames[0] has no line`.
 pub fn sentence(alloc: Global, kind: &Kind, fault: &ShapeFault) -> Result<String, AllocError>
-    ensures { IfOk result (λ text. string_bytes text ≡ sentence_of kind.now (fault_seen fault.now)) }
+    ensures { IfOk result (λ text. string_bytes text ≡ fault_sentence kind.now fault.now) }
 {
     let mut text = String::new(alloc);
     push_subject(&mut text, kind)?;

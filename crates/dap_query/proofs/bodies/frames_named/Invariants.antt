@@ -1,6 +1,6 @@
-use Rattle.std.proofs.Common.{◌≡◌, Some, map, take, option_map}
+use Rattle.std.proofs.Common.{◌≡◌, Some, map, take}
 use Rattle.dap_debuggee.specs.declared.answers.Frame.{Frame}
-use Rattle.dap_tables.specs.References.{frame_of, holder_of}
+use Rattle.dap_tables.specs.References.{frame_of}
 use Rattle.dap_query.proofs.bodies.frames_named.Given as goal
 
 -- of those so far

@@ -1,6 +1,6 @@
-use Rattle.std.proofs.Common.{◌≡◌, Some, map, take, option_map}
+use Rattle.std.proofs.Common.{◌≡◌, map, take, option_map}
 use Rattle.dap_debuggee.specs.declared.answers.Variable.{Variable}
-use Rattle.dap_tables.specs.References.{frame_of, holder_of}
+use Rattle.dap_tables.specs.References.{holder_of}
 use Rattle.dap_query.proofs.bodies.variables_named.Given as goal
 
 -- of those so far
