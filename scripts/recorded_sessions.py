@@ -258,7 +258,7 @@ def plain(recording):
 
 
 # A recording in which more is said beside a frame, a scope and variables.
-SAID = recording_beside({"moduleId": 7}, {"presentationHint": "locals"}, {"type": "int", "own": [True]}, {"type": "pair"})
+SAID = recording_beside({"moduleId": 7}, {"presentationHint": "locals"}, {"type": "int", "own": [True]}, {"type": "pair"}, {}, {})
 
 
 def again():
