@@ -521,7 +521,8 @@ class Session:
         self.debuggee.assign(holder, arguments["name"], arguments["value"])
 
     def threads(self, _):
-        return {"threads": [{"id": thread["id"], "name": thread["name"]} for thread in self.debuggee.threads()]}
+        there = self.debuggee.threads()
+        return {"threads": [beside(thread, {"id": thread["id"], "name": thread["name"]}) for thread in there]}
 
     def thread(self, arguments):
         for thread in self.debuggee.threads():
@@ -585,7 +586,7 @@ class Session:
         told = self.debuggee.sources[place]
         path = {"path": told["path"]} if "path" in told else {}
         number = {} if path and told.get("onDisk", False) else {"sourceReference": place + 1}
-        return {"name": told["name"], **path, **number}
+        return beside(told, {"name": told["name"], **path, **number}, "path", "sourceReference")
 
     def loaded_sources(self, _):
         return {"sources": [self.source(place) for place in range(len(self.debuggee.sources))]}
