@@ -49,6 +49,9 @@ class Guided:
 TEXTS = ["", "a", "b", "\u00e9" * 100, "\u0001\n\t\"\\/", "\U0001f333", "x" * 300, "\x7f\u2028", "\u001f" * 120]
 # Reasons of a stop, of which one has as many bytes as may be.
 REASONS = ["", "breakpoint", "exception", "step", "pause", "entry", "a\u0001\"\U0001f333", "x" * 64]
+# What stands beside: among it keys that elements have themselves, and those by which a client would find references.
+BESIDE = [{}, {"type": "int"}, {"value": 1, "type": "\u00e9\u0001", "own": [{}, None, -(2**63), 2**64 - 1]}]
+BESIDE += [{"scopes": [], "stackFrames": [{"id": 1}], "variables": 0, "variablesReference": 7, "source": {}}]
 
 
 def random_recording(choice):
@@ -61,21 +64,24 @@ def random_recording(choice):
         if choice.randrange(4) == 0:
             source["onDisk"] = choice.choice([True, False])
 
+    def with_more(told):
+        return {**told, "more": choice.choice(BESIDE)} if choice.randrange(3) == 0 else told
+
     def variable(depth):
-        told = {"name": choice.choice(TEXTS[:5]), "value": choice.choice(TEXTS)}
+        told = with_more({"name": choice.choice(TEXTS[:5]), "value": choice.choice(TEXTS)})
         if depth and choice.randrange(2):
             told["variables"] = [variable(depth - 1) for _ in range(choice.randrange(4))]
         return told
 
     def scope():
-        told = {"name": choice.choice(TEXTS)}
+        told = with_more({"name": choice.choice(TEXTS)})
         return {**told, "variables": [variable(3) for _ in range(choice.randrange(5))]} if choice.randrange(5) else told
 
     def shown():
         place = choice.randrange(len(sources))
         text = sources[place]["text"]
         line = choice.randrange(text.count("\n") + (text[-1] != "\n")) + 1
-        told = {"name": choice.choice(TEXTS), "source": place, "line": line}
+        told = with_more({"name": choice.choice(TEXTS), "source": place, "line": line})
         return {**told, "scopes": [scope() for _ in range(choice.randrange(3))]} if choice.randrange(4) else told
 
     def moment():

@@ -44,17 +44,17 @@ def threads(*ids):
     return ("threads", None, {"threads": [{"id": one, "name": f"t{one}"} for one in ids]})
 
 
-def frame(number, line=1, source=None, name="f"):
-    return {"id": number, "name": name, "line": line, "column": 1, "source": source or GONE}
+def frame(number, line=1, source=None, name="f", **more):
+    return {"id": number, "name": name, "line": line, "column": 1, "source": source or GONE, **more}
 
 
 def stack(*frames, thread=1, **more):
     return ("stackTrace", {"threadId": thread, **more}, {"stackFrames": list(frames), "totalFrames": len(frames)})
 
 
-def scopes(number, *holders):
+def scopes(number, *holders, **more):
     """The scopes of a frame, each a name and a reference."""
-    told = [{"name": name, "variablesReference": reference, "expensive": False} for name, reference in holders]
+    told = [{"name": name, "variablesReference": reference, "expensive": False, **more} for name, reference in holders]
     return ("scopes", {"frameId": number}, {"scopes": told})
 
 
@@ -66,8 +66,8 @@ def variables(reference, *told, **more):
     return ("variables", {"variablesReference": reference, **more}, {"variables": list(told)})
 
 
-def evaluated(expression, result, frame=5):
-    return ("evaluate", {"expression": expression, "frameId": frame}, {"result": result, "variablesReference": 0})
+def evaluated(expression, result, frame=5, **more):
+    return ("evaluate", {"expression": expression, "frameId": frame}, {"result": result, "variablesReference": 0, **more})
 
 
 def evaluations(moments, *inner):
@@ -76,21 +76,25 @@ def evaluations(moments, *inner):
     return moments
 
 
-def named(name, *inner, value="v"):
+def named(name, *inner, value="v", more=None):
     """A variable of a recording."""
-    return {"name": name, "value": value, **({"variables": list(inner)} if inner else {})}
+    return {"name": name, "value": value, **with_more(more), **({"variables": list(inner)} if inner else {})}
+
+
+def with_more(more):
+    return {"more": more} if more else {}
 
 
 def wrote(text, category="stdout"):
     return ("output", {"category": category, "output": text})
 
 
-def in_frame(*inner, name="f", line=1, source=0):
-    return {"name": name, "source": source, "line": line, **({"scopes": list(inner)} if inner else {})}
+def in_frame(*inner, name="f", line=1, source=0, more=None):
+    return {"name": name, "source": source, "line": line, **with_more(more), **({"scopes": list(inner)} if inner else {})}
 
 
-def scope(name, *inner):
-    return {"name": name, **({"variables": list(inner)} if inner else {})}
+def scope(name, *inner, more=None):
+    return {"name": name, **with_more(more), **({"variables": list(inner)} if inner else {})}
 
 
 def moment(*frames, thread=1, name="t1", **more):
@@ -345,9 +349,109 @@ HELD = [
 ]
 
 
+# What a debugger says of an element beside its name, as the Specification has it or its own: what is kept, and what is not.
+OF_FRAME = {"presentationHint": "subtle", "instructionPointerReference": "0x40", "moduleId": 3, "ownOfFrame": [1, None, "x"]}
+NOT_OF_FRAME = {"endLine": 2, "endColumn": 9, "canRestart": True}
+OF_SCOPE = {"presentationHint": "registers", "ownOfScope": {}}
+NOT_OF_SCOPE = {"namedVariables": 1, "indexedVariables": 0, "source": GONE, "line": 1, "column": 1, "endLine": 2, "endColumn": 9}
+HINT = {"kind": "property", "attributes": ["readOnly"], "visibility": "private"}
+OF_VARIABLE = {"type": "int", "evaluateName": "p->a", "presentationHint": HINT, "memoryReference": "0x1000", "$own": True}
+OF_EVALUATION = {"type": "long", "presentationHint": HINT, "memoryReference": "0x2000", "$own": False}
+# The references to places are keys of later versions of it.
+NOT_OF_VARIABLE = {"namedVariables": 0, "indexedVariables": 0, "declarationLocationReference": 5, "valueLocationReference": 6}
+INT, LONG, EMPTY = {"type": "int"}, {"type": "long"}, {"type": "", "presentationHint": {}}
+LABEL, LOCALS, LAZY = {"presentationHint": "label"}, {"presentationHint": "locals"}, {"presentationHint": {"lazy": True, **HINT}}
+LOST = "stop 1: {} left out of `more`: with a float, or nested too deep".format
+
+
+def deep_list(depth):
+    return [deep_list(depth - 1)] if depth > 1 else []
+
+
+def deep_with(depth, **more):
+    """Variables of which each holds the next one, and of the last one more is said."""
+    told, _ = deep(depth)
+    told[-1][2]["variables"][0].update(more)
+    return told
+
+
+def nested_with(depth, more, start=0):
+    """Those as they are recorded."""
+    inner = [nested_with(depth - 1, more, start + 1)] if depth > 1 else []
+    return named(f"n{start}", *inner, more=None if inner else more)
+
+
+FIT = {"greatest": 2**64 - 1, "least": -(2**63), "deepest": deep_list(99), "true": True}
+UNFIT = {"float": 0.5, "in": [{"x": 1e2}], "greater": 2**64, "less": -(2**63) - 1, "deeper": deep_list(100), "none": float("nan")}
+BESIDE = [
+    (
+        "what is said beside each element",
+        [
+            *BEGIN, stopped(), stack(frame(5, **OF_FRAME, **NOT_OF_FRAME)), scopes(5, ("A", 7), **OF_SCOPE, **NOT_OF_SCOPE),
+            variables(7, variable("a", "1", **OF_VARIABLE, **NOT_OF_VARIABLE)),
+            evaluated("a + 1", "2", variablesReference=9, name="x", value="y", **OF_EVALUATION, **NOT_OF_VARIABLE),
+            variables(9, variable("b", "3", **INT)), EXITED,
+        ],
+        evaluations(
+            [moment(in_frame(scope("A", named("a", value="1", more=OF_VARIABLE), more=OF_SCOPE), more=OF_FRAME))],
+            named("a + 1", named("b", value="3", more=INT), value="2", more=OF_EVALUATION),
+        ),
+    ),
+    (
+        "null beside, and what is empty",
+        looked(variables(7, variable("a", type=None, own=None), variable("b", own=None, **EMPTY)), variables(8)),
+        of_looked(named("a"), named("b", more=EMPTY)),
+    ),
+    (
+        "what cannot stand beside", looked(variables(7, variable("a", **FIT, **UNFIT)), variables(8)),
+        of_looked(named("a", more=FIT)), LOST("6 members"),
+    ),
+    (
+        "such beside a frame and a scope",
+        [*BEGIN, stopped(), stack(frame(5, **FIT, **UNFIT)), scopes(5, ("A", 7), x=0.5), variables(7), EXITED],
+        [moment(in_frame(scope("A"), more=FIT))], LOST("7 members"),
+    ),
+    (
+        "beside a variable that nests 58 deep",
+        looked(*deep_with(58, type="int", own={"x": 1}, presentationHint=HINT), variables(8)),
+        of_looked(nested_with(58, {"type": "int", "own": {"x": 1}})), LOST("1 member"),
+    ),
+    (
+        "beside one that nests 59 deep", looked(*deep_with(59, type="int"), variables(8)), of_looked(nested(59)),
+        LOST("1 member"),
+    ),
+    (
+        "the first answer counts",
+        looked(
+            variables(7, variable("a", **INT), variable("b")), variables(7, variable("a", **LONG), variable("b", **LONG)),
+            ("setVariable", {"variablesReference": 7, "name": "a", "value": "2"}, {"value": "2", **LONG}),
+            variables(8), evaluated("a", "v", **LONG), evaluated("x", "v", **INT), evaluated("x", "v", **LONG),
+        ),
+        evaluations(of_looked(named("a", more=INT), named("b")), named("x", more=INT)),
+    ),
+    (
+        "a frame and a scope that come again",
+        [
+            *BEGIN, stopped(), stack(frame(5, **LABEL)), stack(frame(6, **OF_FRAME)), scopes(6, ("A", 7), **LOCALS),
+            scopes(5, ("A", 9), **OF_SCOPE), variables(9, variable("a", **INT)), EXITED,
+        ],
+        [moment(in_frame(scope("A", named("a", more=INT), more=LOCALS), more=LABEL))],
+    ),
+    (
+        "a value that a client is to ask for",
+        looked(
+            variables(7, variable("a", reference=9, **LAZY), variable("b", reference=10, **LAZY)), variables(9, variable("")),
+            variables(8),
+        ),
+        of_looked(named("a", named(""), more=LAZY), named("b", more={"presentationHint": HINT})),
+        "stop 1: " + UNASKED.format("1 variable"),
+    ),
+]
+
+
 def sessions():
     """What becomes of stops, and of what was looked into there."""
-    for name, steps, moments, *said in STOPS + HELD:
+    for name, steps, moments, *said in STOPS + HELD + BESIDE:
         recorded(name, steps, {"exit": 0, "moments": moments}, [NO_GONE, *said])
 
 

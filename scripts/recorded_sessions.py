@@ -10,6 +10,7 @@ import signal
 import sys
 
 import recorder
+from beside_cases import told as recording_beside
 from client import Client
 from random_sessions import Guided, random_recording
 from trial import DAP, EXAMPLES, FOLDER, HERE, RECORDINGS, bytes_of, expect, expect_in, file_of, fine, frames_of, output_of
@@ -74,6 +75,22 @@ def looks_of(transcript):
     return stops, code
 
 
+# What stands beside, by the request that asks for it; `id` is one of LLDB's own.
+BESIDE = {
+    "stackTrace": ("presentationHint", "instructionPointerReference", "moduleId"),
+    "scopes": ("presentationHint",),
+    "variables": ("type", "evaluateName", "presentationHint", "memoryReference", "id"),
+    "evaluate": ("type", "presentationHint", "memoryReference"),
+}
+
+
+def beside(command, those, asked):
+    """Of each what stands beside, as far as the debugger said it in the session: the place of its element, the key, the value."""
+    for place, one in enumerate(those):
+        said = asked[place] if place < len(asked) else {}
+        yield from ((place, key, one.get(key)) for key in BESIDE[command] if said.get(key) is not None)
+
+
 class Played:
     """A recording that is played, and asked what its session was asked, with the numbers that it gave itself."""
 
@@ -81,6 +98,12 @@ class Played:
         self.client = Recorded([DAP, "serve", path])
         self.frames = {}
         self.holders = {}
+        # What stands beside, as it was said in the session, and as it is played.
+        self.beside = ([], [])
+
+    def keep(self, command, asked, told):
+        for kept, those in zip(self.beside, (asked, told)):
+            kept += beside(command, those, asked)
 
     def look(self, command, arguments, body, threads):
         """What was answered then and what is answered now, as far as a recording has it; nothing where it has no such."""
@@ -90,20 +113,24 @@ class Played:
         if command == "stackTrace":
             told = self.client.ask(command, **arguments)
             self.frames.update(zip(ids(body["stackFrames"]), ids(told["stackFrames"])))
+            self.keep(command, body["stackFrames"], told["stackFrames"])
             return [list(places_of(each["stackFrames"], body["stackFrames"])) for each in (body, told)]
         if command == "scopes":
             told = self.client.ask(command, frameId=self.frames[arguments["frameId"]])
             self.holders.update(zip(references(body["scopes"]), references(told["scopes"])))
+            self.keep(command, body["scopes"], told["scopes"])
             names = [[one["name"] for one in each["scopes"]] for each in (body, told)]
             # What was evaluated there is in one more scope.
             return [names[0], names[1][:-1] if names[1][-1:] == ["Evaluations"] else names[1]]
         if command == "evaluate" and arguments.get("frameId") in self.frames:
             told = self.client.ask(command, **{**arguments, "frameId": self.frames[arguments["frameId"]]})
             self.holders[body["variablesReference"]] = told["variablesReference"]
+            self.keep(command, [body], [told])
             return [[each["result"]] for each in (body, told)]
         if command == "variables" and (body["variables"] or self.holders[arguments["variablesReference"]]):
             told = self.client.ask(command, variablesReference=self.holders[arguments["variablesReference"]])
             self.holders.update(zip(references(body["variables"]), references(told["variables"])))
+            self.keep(command, body["variables"], told["variables"])
             return [[(one["name"], one["value"]) for one in each["variables"]] for each in (body, told)]
         return None
 
@@ -163,6 +190,9 @@ def played_as(name, path, stops, code):
     told = ", ".join(f"{new} {command}" for command, (_, new) in sorted(counts.items()))
     expect(f"record: {name}: {told}", [new for _, new in counts.values()], [old for old, _ in counts.values()])
     expect(f"record: {name}: it has stops, frames, scopes and variables", min(old for old, _ in counts.values()) > 0, True)
+    said, again = played.beside
+    expect(f"record: {name}: {len(again)} members stand beside", again, said)
+    expect(f"record: {name}: there are such, types among them", "type" in {key for _, key, _ in said}, True)
     expect(f"record: {name}: it exits", stop["body"], {"exitCode": code})
     played.client.ask("disconnect")
     expect(f"record: {name}: and ends", played.client.end(), (0, []))
@@ -210,13 +240,14 @@ def plain(recording):
     """A recording without the places of its sources, and with each key that may be left out; no moment waits."""
 
     def variables(those):
-        return [(one["name"], one["value"], variables(one.get("variables", []))) for one in those]
+        return [(one["name"], one["value"], one.get("more", {}), variables(one.get("variables", []))) for one in those]
 
     def frames(those):
         for one in those:
             source = recording["sources"][one["source"]]
-            scopes = [(scope["name"], variables(scope.get("variables", []))) for scope in one.get("scopes", [])]
-            yield one["name"], one["line"], source["name"], source.get("path"), source["text"], scopes
+            scopes = one.get("scopes", [])
+            held = [(scope["name"], scope.get("more", {}), variables(scope.get("variables", []))) for scope in scopes]
+            yield one["name"], one["line"], one.get("more", {}), source["name"], source.get("path"), source["text"], held
 
     def moments():
         for one in recording["moments"]:
@@ -226,9 +257,13 @@ def plain(recording):
     return recording["exit"], list(moments())
 
 
+# A recording in which more is said beside a frame, a scope and variables.
+SAID = recording_beside({"moduleId": 7}, {"presentationHint": "locals"}, {"type": "int", "own": [True]}, {"type": "pair"}, {}, {})
+
+
 def again():
     """A session over a recording, recorded as it goes on, is that recording."""
-    for path in RECORDINGS:
+    for path in [*RECORDINGS, file_of("beside.json", SAID)]:
         name, out = os.path.basename(path), os.path.join(FOLDER, "again.json")
         client = Recorded([RECORD, out, "--", DAP, "serve", path])
         stop, texts = client.start(), {}
@@ -396,7 +431,8 @@ def go_to_the_end(client):
 # Broken sessions.
 
 ODD = [None, True, -1, 0, 1, 7, 59, 2**31, 2**53, 2**64, 1.5, "", "x", "\ud800", "a\0b"]
-ODD += [[], {}, [{}], [None], {"id": 1}, {"name": 1}]
+ODD += [[], {}, [{}], [None], {"id": 1}, {"name": 1}, {"type": [0.5]}]
+ODD += [json.loads("[" * depth + "]" * depth) for depth in (99, 100)]
 
 
 def places_in(value):

@@ -7,6 +7,9 @@ question in a stop the first counts, so that a value which the client has set is
 import os
 
 DEEPEST = 59
+# How deep an object may nest whose members stand beside others, and how deep a recording may, as JSON.
+DEEPEST_BESIDE = 100
+DEEPEST_JSON = 127
 MOST_SOURCES = 65536
 MOST_FILE = 67108864
 # Beyond these a session is cut. They are this script's own, so that no adapter makes it fill the memory.
@@ -17,6 +20,19 @@ PROGRAM_OUTPUT = ("stdout", "stderr")
 # What a recording has of why a stop came: of each the key of the event, and how many bytes the text may have.
 TOLD = {"stop": ("reason", 64), "description": ("description", 128), "text": ("text", 128)}
 EVALUATIONS = "Evaluations"
+# The level of the object of each element in a recording, from 1; that of a variable is 2 more for each that it is in.
+LEVELS = {"frame": 7, "scope": 9, "variable": 11}
+# The standard members of each element that do not stand beside others, in `more`: what `dap serve` says itself, and what
+# would be false when it does. It has its own numbers, may hold fewer variables, counts lines as its client does, and serves
+# neither `restartFrame` nor `locations`. An evaluation becomes a variable.
+RANGE = ("source", "line", "column", "endLine", "endColumn")
+COUNTS = ("variablesReference", "namedVariables", "indexedVariables")
+LOCATIONS = ("declarationLocationReference", "valueLocationReference")
+NOT_BESIDE = {
+    "frame": {"id", "name", "canRestart", *RANGE},
+    "scope": {"name", "expensive", *COUNTS, *RANGE},
+    "variable": {"name", "value", "result", *COUNTS, *LOCATIONS},
+}
 BACK = ("stepBack", "reverseContinue")
 FORTH = ("continue", "next", "stepIn", "stepOut")
 # After each of these requests the program may run.
@@ -53,6 +69,27 @@ def put(there, place, thing):
     first = there.setdefault(place, thing)
     if first is not thing and first["name"] == thing["name"]:
         first["keys"] += thing["keys"]
+
+
+def beside(what, value):
+    """What an element has beside its name, its value and what it holds, as it came. `null` says nothing."""
+    return {key: said for key, said in value.items() if key not in NOT_BESIDE[what] and said is not None}
+
+
+def not_lazy(said):
+    """Without the hint that a client is to ask for the value: for a variable that holds nothing."""
+    hint = said.get("presentationHint")
+    if not isinstance(hint, dict) or hint.get("lazy") is not True:
+        return said
+    return {**said, "presentationHint": {key: value for key, value in hint.items() if key != "lazy"}}
+
+
+def can_stand(value, levels):
+    """Whether a value is without floats, as which whole numbers beyond 64 bits are read, and nests at most so deep."""
+    if isinstance(value, (dict, list)):
+        inner = value.values() if isinstance(value, dict) else value
+        return levels > 0 and all(can_stand(one, levels - 1) for one in inner)
+    return not isinstance(value, float) and (not isinstance(value, int) or -(2**63) <= value < 2**64)
 
 
 class Holder:
@@ -131,17 +168,17 @@ class Stop:
         scopes = objects_of(body, "scopes")
         self.given_by.update({number_of(scope, "variablesReference"): frame for scope in scopes})
         for place, scope in enumerate(scopes):
-            put(self.scopes, (frame, place), self.with_keys(scope))
+            put(self.scopes, (frame, place), self.with_keys("scope", scope))
 
     def take_variables(self, arguments, body):
         key = self.key_of(arguments)
         if key:
-            variables = [self.with_keys(one) for one in objects_of(body, "variables")]
+            variables = [self.with_keys("variable", one) for one in objects_of(body, "variables")]
             self.holders.setdefault(key[0], {}).setdefault(key[1], Holder()).take(arguments, variables)
 
     def take_evaluation(self, arguments, body):
         expression = text_of(arguments, "expression")
-        found = self.with_keys({**body, "name": expression, "value": text_of(body, "result")})
+        found = self.with_keys("variable", {**body, "name": expression, "value": text_of(body, "result")})
         self.evaluations.append((self.frame_of(arguments), expression, found))
 
     def evaluations_in(self, frame):
@@ -151,12 +188,13 @@ class Stop:
         number = number_of(value, "variablesReference", 0)
         return (number, self.given_by.get(number)) if number > 0 else None
 
-    def with_keys(self, value):
-        """A scope or a variable, with the keys of what it holds, and of how many variables the adapter spoke."""
+    def with_keys(self, what, value):
+        """A scope or a variable, with the keys of what it holds, how many variables the adapter spoke of, and what is beside."""
         count = number_of(value, "indexedVariables", 0) + number_of(value, "namedVariables", 0)
         key = self.key_of(value)
         keys = [key] if key else []
-        return {"name": text_of(value, "name"), "value": text_of(value, "value"), "keys": keys, "count": count}
+        named = {"name": text_of(value, "name"), "value": text_of(value, "value")}
+        return {**named, "keys": keys, "count": count, "beside": beside(what, value)}
 
     def scopes_of(self, frame):
         return [self.scopes[place] for place in sorted(place for place in self.scopes if place[0] == frame)]
@@ -399,7 +437,7 @@ class Moments:
         self.notes.append(f"stop {stop.number}{colon} {told}")
 
     def moment(self, stop, output):
-        self.counts = {"cyclic": 0, "deep": 0, "many": 0, "variable": 0, "scope": 0}
+        self.counts = {"cyclic": 0, "deep": 0, "many": 0, "variable": 0, "scope": 0, "beside": 0}
         order = [*stop.names, *(thread for thread in stop.frames if thread not in stop.names)]
         threads = [self.thread(stop, thread) for thread in order if stop.frames.get(thread)]
         ids = [thread["id"] for thread in threads]
@@ -463,6 +501,8 @@ class Moments:
             self.say(stop, f"{some(of['deep'], 'variable')} cut: nested deeper than {DEEPEST}")
         if of["many"]:
             self.say(stop, f"{some(of['many'], 'variable')} left out: the recording has {MOST_VARIABLES}")
+        if of["beside"]:
+            self.say(stop, f"{some(of['beside'], 'member')} left out of `more`: with a float, or nested too deep")
 
     def thread(self, stop, thread):
         there = [stop.frames[thread][place] for place in sorted(stop.frames[thread])]
@@ -475,7 +515,7 @@ class Moments:
     def frame(self, stop, frame):
         line = number_of(frame, "line", 0) + 1 - self.session.first_line
         source, line = self.sources.place_of(object_of(frame, "source"), line)
-        made = {"name": text_of(frame, "name"), "source": source, "line": line}
+        made = {"name": text_of(frame, "name"), "source": source, "line": line, **self.more("frame", beside("frame", frame))}
         number = number_of(frame, "id")
         self.join_evaluations(stop, number)
         scopes = [self.scope(stop, scope) for scope in stop.scopes_of(number)]
@@ -485,7 +525,15 @@ class Moments:
 
     def scope(self, stop, scope):
         variables = self.variables(stop, scope, "scope", ())
-        return {"name": scope["name"], **({"variables": variables} if variables else {})}
+        more = self.more("scope", scope["beside"])
+        return {"name": scope["name"], **more, **({"variables": variables} if variables else {})}
+
+    def more(self, what, said, depth=0):
+        """The key of what stands beside, where there is any. A variable is in so many others."""
+        levels = min(DEEPEST_BESIDE, DEEPEST_JSON - LEVELS[what] - 2 * depth)
+        kept = {key: value for key, value in said.items() if levels > 0 and can_stand(value, levels - 1)}
+        self.counts["beside"] += len(said) - len(kept)
+        return {"more": kept} if kept else {}
 
     def variables(self, stop, thing, what, above):
         """What a scope or a variable holds, as deep as it was asked for. `above` has the keys that lead here."""
@@ -506,7 +554,10 @@ class Moments:
 
     def variable(self, stop, variable, above):
         inner = self.variables(stop, variable, "variable", above)
-        return {"name": variable["name"], "value": variable["value"], **({"variables": inner} if inner else {})}
+        said = variable["beside"] if inner else not_lazy(variable["beside"])
+        more = self.more("variable", said, len(above) - 1)
+        named = {"name": variable["name"], "value": variable["value"]}
+        return {**named, **more, **({"variables": inner} if inner else {})}
 
     def join_evaluations(self, stop, frame):
         """A variable whose name was evaluated may have been opened there."""

@@ -14,6 +14,8 @@ import sys
 from commands import BACK, CAPABILITIES, COMMANDS, RESUMING, TERMINAL, failure
 
 GREATEST = 9007199254740991
+# Where a client finds references in a body: in those of `evaluate` and `setVariable`, nothing beside may stand there.
+REFERENCES = ("scopes", "stackFrames", "variables", "variablesReference")
 # What the client's terminal is asked to run.
 RUN_IN_TERMINAL = {"args": ["recorded"], "cwd": "/", "kind": "integrated", "title": "recorded"}
 
@@ -181,10 +183,11 @@ class Recorded:
         raise Failed("debuggee")
 
     def assigned(self, holder, name, text):
-        """The value that the first variable of that name would have: the text."""
-        if self.place(holder, name) is None:
+        """The first variable of that name, and the value that it would have: the text."""
+        place = self.place(holder, name)
+        if place is None:
             raise Failed("debuggee")
-        return text
+        return self.children(holder)[place], text
 
     def assign(self, holder, name, text):
         self.values.setdefault(id(holder), {})[self.place(holder, name)] = text
@@ -513,12 +516,13 @@ class Session:
     def set_variable(self, request, arguments):
         """The answer is measured before the debuggee is asked to set the value. Nothing is named in it."""
         holder = self.references.thing("holder", arguments["variablesReference"])
-        value = self.debuggee.assigned(holder, arguments["name"], arguments["value"])
-        self.respond(request, {"value": value})
+        found, value = self.debuggee.assigned(holder, arguments["name"], arguments["value"])
+        self.respond(request, beside(found, {"value": value}, *REFERENCES))
         self.debuggee.assign(holder, arguments["name"], arguments["value"])
 
     def threads(self, _):
-        return {"threads": [{"id": thread["id"], "name": thread["name"]} for thread in self.debuggee.threads()]}
+        there = self.debuggee.threads()
+        return {"threads": [beside(thread, {"id": thread["id"], "name": thread["name"]}) for thread in there]}
 
     def thread(self, arguments):
         for thread in self.debuggee.threads():
@@ -569,7 +573,7 @@ class Session:
         frame = None if number is None else self.references.thing("frame", number)
         found, value = self.debuggee.evaluate(frame, arguments["expression"])
         own = {"result": value, "variablesReference": self.holder(found)}
-        return beside(found, own, "scopes", "stackFrames", "variables")
+        return beside(found, own, *REFERENCES)
 
     def content(self, arguments):
         inner = (arguments.get("source") or {}).get("sourceReference")
@@ -582,7 +586,7 @@ class Session:
         told = self.debuggee.sources[place]
         path = {"path": told["path"]} if "path" in told else {}
         number = {} if path and told.get("onDisk", False) else {"sourceReference": place + 1}
-        return {"name": told["name"], **path, **number}
+        return beside(told, {"name": told["name"], **path, **number}, "path", "sourceReference")
 
     def loaded_sources(self, _):
         return {"sources": [self.source(place) for place in range(len(self.debuggee.sources))]}
