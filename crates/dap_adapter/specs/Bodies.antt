@@ -1,6 +1,7 @@
 -- An adapter between two messages, where a body is handed in without its frame.
 -- Overview, "Base Protocol".
-use Rattle.std.specs.Prelude.{◌≡◌, ◌≤◌, ℕ, List, [], ◌∷◌, Bool, false, length}
+use Rattle.std.specs.Prelude.{◌≡◌, ◌≤◌, ℕ, List, [], ◌∷◌, ◌++◌, Bool, false, length, MatchOption, Option}
+use Rattle.std.specs.Borrow.{Bor}
 use Rattle.dap_debuggee.specs.Shown.{Shown}
 use Rattle.dap_frame.specs.Settings.{AreInRange}
 use Rattle.dap_frame.specs.Written.{frame_of}
@@ -27,3 +28,7 @@ pub record BodiesComeOneByOne {D : Type 0} (shown : D → Shown) (follows : Goes
       → (a : AnswersPiece shown follows old (frame_of body) before new after ended) → (a.runs_on.bodies ≡ body ∷ []) × IsBetween new
   pub told : (old new : AdapterState D) (before after : List ℕ) → IsBetween old → PollsOn shown follows old before new after → IsBetween new
   pub exchanged : (old new : AdapterState D) → IsBetween old → Exchanges shown old new → IsBetween new
+
+-- where bytes begin with a frame, its body and what is behind it are lent
+abbrev pub LendsFirstBody : List ℕ → Option (Bor (List ℕ) × Bor (List ℕ)) → Type 0
+LendsFirstBody frames result = (body rest : List ℕ) → frames ≡ frame_of body ++ rest → MatchOption result ⊥ (λ lent. (lent.0.now ≡ body) × (lent.1.now ≡ rest))

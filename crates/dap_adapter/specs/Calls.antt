@@ -1,5 +1,5 @@
 -- What the calls of an adapter do, as their contracts say it.
-use Rattle.std.specs.Prelude.{◌≡◌, ◌⊎◌, ℕ, ◌<◌, ◌≤◌, List, [], ◌∷◌, ◌++◌, take, Option, Some, None, Ok, Err, ⊤, true}
+use Rattle.std.specs.Prelude.{◌≡◌, ◌≢◌, ◌⊎◌, false, IsOk, OnErr, Result, ℕ, ◌<◌, ◌≤◌, List, [], ◌∷◌, ◌++◌, take, Option, Some, None, Ok, Err, ⊤, true}
 use Rattle.dap_frame.specs.Feeds.{Gathers}
 use Rattle.dap_frame.specs.Intake.{Intake}
 use Rattle.dap_frame.specs.Settings.{Settings, bounds_of}
@@ -12,6 +12,9 @@ use Rattle.dap_debuggee.specs.Shown.{Shown}
 use Rattle.dap_tables.specs.Outstanding.{Kept}
 use Rattle.dap_plan.specs.declared.fault.AdapterFault.{AdapterFault}
 use Rattle.dap_plan.specs.declared.fault.AdapterFault.TheVariants.{Frame, Body, SeqExhausted, OutOfMemory}
+use Rattle.dap_decision.specs.Table.{is_phase}
+use Rattle.dap_decision.specs.declared.phase.Phase.TheVariants.{Asked}
+use Rattle.dap_adapter.specs.declared.taken.Taken.{Taken}
 use Rattle.dap_adapter.specs.declared.taken.Turned.{Turned}
 use Rattle.dap_adapter.specs.declared.taken.Turned.TheVariants.{Idle, Done}
 use Rattle.dap_plan.specs.Carried.{Goes}
@@ -20,7 +23,7 @@ use Rattle.dap_plan.specs.Plan.{Plan, written_by, entries_of}
 use Rattle.dap_outbox.specs.Draft.{bytes_of}
 use Rattle.dap_plan.specs.Polling.{polls, has_debuggee}
 use Rattle.dap_plan.specs.SessionState.{SessionState, SessionStep, IsUnasked, HasTooMany}
-use Rattle.dap_plan.specs.Session.{Session, to_handle}
+use Rattle.dap_plan.specs.Session.{Session, oldest, to_handle}
 use Rattle.dap_reader.specs.Reader.{Reader}
 use Rattle.dap_adapter.specs.AdapterState.{AdapterState, state_of}
 use Rattle.dap_adapter.specs.StandsFor.{StandsFor, GoesOn}
@@ -112,6 +115,47 @@ abbrev pub PollRefused : {D : Type 0} → Goes D → AdapterState D → AdapterF
 PollRefused follows old OutOfMemory new = has_debuggee old.session.phase ≡ true
 PollRefused follows old SeqExhausted new = HasTooMany follows (polls old.session) (state_of old) (state_of new)
 PollRefused follows old fault new = ⊥
+
+-- ---- the same, of what a call gives
+
+abbrev pub TakesUp : {D : Type 0} → Goes D → AdapterState D → List ℕ → AdapterState D → Taken → Type 0
+TakesUp follows old piece new taken = Takes follows old piece taken.used taken.bytes.items taken.delivered new
+
+abbrev pub GivesTurn : {D : Type 0} → (D → Shown) → Goes D → AdapterState D → AdapterState D → Turned → Type 0
+GivesTurn shown follows old new turned = TurnGives shown follows old turned new
+
+-- fewer requests wait to be handled, unless none did
+abbrev pub LeavesFewer : {D : Type 0} → AdapterState D → AdapterState D → Turned → Type 0
+LeavesFewer old new turned = AreFewer turned old.session.kept new.session.kept
+
+-- ---- why an adapter that no fault has closed does not take a piece, make a turn or poll
+
+abbrev pub PieceNotTakenUp : {D : Type 0} → AdapterState D → List ℕ → AdapterState D → AdapterFault → Type 0
+PieceNotTakenUp old piece new fault = old.fault ≡ None → TakeRefused old.intake (state_of old) piece fault new.debuggee
+
+abbrev pub TurnNotMade : {D : Type 0} → (D → Shown) → AdapterState D → AdapterState D → AdapterFault → Type 0
+TurnNotMade shown old new fault = old.fault ≡ None → TurnRefused shown old fault new
+
+abbrev pub PollNotMade : {D : Type 0} → Goes D → AdapterState D → AdapterState D → AdapterFault → Type 0
+PollNotMade follows old new fault = old.fault ≡ None → PollRefused follows old fault new
+
+-- ---- what a call leaves alone
+
+-- the debuggee, unless memory is refused
+abbrev pub KeepsDebuggee : {D : Type 0} → AdapterState D → AdapterState D → AdapterFault → Type 0
+KeepsDebuggee old new fault = fault ≢ OutOfMemory → new.debuggee ≡ old.debuggee
+
+-- the debuggee, unless an answer to a request for a terminal is waited for
+abbrev pub KeepsDebuggeeUnlessAsked : {D T E : Type 0} → AdapterState D → AdapterState D → Result T E → Type 0
+KeepsDebuggeeUnlessAsked old new result = is_phase Asked old.session.phase ≡ false → OnErr result (new.debuggee ≡ old.debuggee)
+
+-- where no request waits, no memory is asked for
+abbrev pub IdlesWithNone : {D E : Type 0} → AdapterState D → Result Turned E → Type 0
+IdlesWithNone old result = old.fault ≡ None → oldest old.session.kept ≡ None → result ≡ Ok Idle
+
+-- where there is no debuggee to ask, no memory is asked for
+abbrev pub PollsWithNone : {D T E : Type 0} → AdapterState D → Result T E → Type 0
+PollsWithNone old result = old.fault ≡ None → has_debuggee old.session.phase ≡ false → IsOk result
 
 -- ---- exchange
 

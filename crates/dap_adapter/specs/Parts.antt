@@ -1,6 +1,6 @@
 -- What an adapter does over several of its calls, which are those of a run and in its order, and so what `answer` and `tell` come to.
 -- Overview, "Base Protocol". The order of the calls is this profile's choice.
-use Rattle.std.specs.Prelude.{◌≡◌, ◌≢◌, ℕ, List, [], ◌++◌, Bool, true, false, None}
+use Rattle.std.specs.Prelude.{◌≡◌, ◌≢◌, ℕ, List, [], ◌++◌, Bool, true, false, None, Result, Ok, Err, IfSome, IsOk, OnOk, Vec}
 use Rattle.dap_frame.specs.Intake.{StandsFor as StandsForStream}
 use Rattle.dap_history.specs.History.{Entry, outs_of}
 use Rattle.dap_envelope.specs.ReadBack.{AllReadBack}
@@ -8,6 +8,7 @@ use Rattle.dap_envelope.specs.declared.message.Message.{Message}
 use Rattle.dap_debuggee.specs.Shown.{Shown}
 use Rattle.dap_plan.specs.Carried.{Goes}
 use Rattle.dap_outbox.specs.Draft.{bytes_of}
+use Rattle.dap_plan.specs.Polling.{has_debuggee}
 use Rattle.dap_plan.specs.Session.{Session}
 use Rattle.dap_plan.specs.declared.fault.AdapterFault.{AdapterFault}
 use Rattle.dap_plan.specs.declared.fault.AdapterFault.TheVariants.{OutOfMemory}
@@ -120,3 +121,28 @@ pub record StopsAfter {D : Type 0} (shown : D → Shown) (follows : Goes D) (old
   pub runs_on : RunsOn shown follows old from used outs there next
   pub appended : after ≡ before ++ bytes_of outs
   pub why : StopsAtCall shown follows there next later fault new
+
+-- ---- the same, of an adapter and what is appended
+
+abbrev pub AnswersAll : {D A : Type 0} → (D → Shown) → Goes D → AdapterState D → List ℕ → Vec ℕ A → AdapterState D → Vec ℕ A → Bool → Type 0
+AnswersAll shown follows old piece before new after ended = AnswersPiece shown follows old piece before.items new after.items ended
+
+-- where there is a debuggee
+abbrev pub TellsIfThere : {D A T E : Type 0} → (D → Shown) → Goes D → AdapterState D → AdapterState D → Vec ℕ A → Vec ℕ A → Result T E → Type 0
+TellsIfThere shown follows old new before after result = has_debuggee old.session.phase ≡ true → OnOk result (PollsOn shown follows old before.items new after.items)
+
+-- where there is none, nothing happens
+abbrev pub TellsNothing : {D A T E : Type 0} → AdapterState D → AdapterState D → Vec ℕ A → Vec ℕ A → Result T E → Type 0
+TellsNothing old new before after result = old.fault ≡ None → has_debuggee old.session.phase ≡ false → IsOk result × (new ≡ old) × (after ≡ before)
+
+-- nor where the session has ended
+abbrev pub StaysEnded : {D A E : Type 0} → AdapterState D → AdapterState D → Vec ℕ A → Vec ℕ A → Result Bool E → Type 0
+StaysEnded old new before after result = old.fault ≡ None → has_ended old.session ≡ true → (result ≡ Ok true) × (new ≡ old) × (after ≡ before)
+
+-- nor where a fault has closed it, which is answered again
+abbrev pub StaysShut : {D A T : Type 0} → AdapterState D → AdapterState D → Vec ℕ A → Vec ℕ A → Result T AdapterFault → Type 0
+StaysShut old new before after result = IfSome old.fault (λ fault. (result ≡ Err fault) × (new ≡ old) × (after ≡ before))
+
+-- why it stops, where none has
+abbrev pub StopsIfOpen : {D A : Type 0} → (D → Shown) → Goes D → AdapterState D → Next → List ℕ → Vec ℕ A → AdapterState D → Vec ℕ A → AdapterFault → Type 0
+StopsIfOpen shown follows old from piece before new after fault = old.fault ≡ None → StopsAfter shown follows old from piece before.items fault new after.items

@@ -1,5 +1,6 @@
 -- A run of serving: what is done for the bodies that came, step by step, and which messages it writes.
 -- Overview, "Base Protocol". That a message is delivered once the one before it is handled, that all requests are handled then, and how often the debuggee is asked what happened, are this profile's choices.
+pub use Rattle.dap_session.specs.SessionCalls.{fresh_state}
 use Rattle.std.specs.Prelude.{◌≡◌, ℕ, ◌+◌, ◌≤◌, ◌==◌, ◌||◌, List, [], ◌∷◌, ◌++◌, length, Bool, false, Some, None, Ok, if◌then◌else◌}
 use Rattle.dap_frame.specs.Settings.{Settings, bounds_of}
 use Rattle.dap_frame.specs.Stream.{Split}
@@ -34,10 +35,6 @@ after_poll asks bytes phase = if is_last_poll asks bytes phase then to_take else
 -- nothing is delivered any more
 abbrev pub has_ended : Session → Bool
 has_ended s = is_phase Ended s.phase
-
--- where a session begins
-abbrev pub fresh_state : {D : Type 0} → Settings → D → SessionState D
-fresh_state limits debuggee = record { session = fresh_session limits; debuggee = debuggee }
 
 -- A run from a session, of which this is done next, over these bodies. It writes these messages and stands there. It may stop after any step, and all that came is handled where the next message is to be taken.
 pub data Run {D : Type 0} (shown : D → Shown) (follows : Goes D) (first : Next) (start : SessionState D) : List (List ℕ) → List Message → Next → SessionState D → Type 0 where

@@ -2,7 +2,8 @@
 -- Overview, "Base Protocol". That an end stops at the first refusal, and that all is answered before the next read, are this profile's choices.
 use Rattle.std.specs.Prelude.{◌≡◌, ℕ, ◌+◌, ◌<◌, ◌≤◌, List, [], ◌∷◌, ◌++◌, length, IsTrue, true, false, Option, Result, Ok, Err}
 use Rattle.std.specs.Io.KnownBytes.{Appends, Consumes, IsAtEnd}
-use Rattle.dap_channel.specs.Channel.{IoEvent, Gave, ReadFailed, Took, WriteFailed, Flushed, FlushFailed, Ran, bytes_read, bytes_written, reads, is_flushed, MayGoOn, HasEnded, HasReadFailed, HasWriteFailed}
+use Rattle.dap_channel.specs.Channel.{IoEvent, Pipes, keeps_log, Gave, ReadFailed, Took, WriteFailed, Flushed, FlushFailed, Ran, bytes_read, bytes_written, reads, is_flushed, MayGoOn, HasEnded, HasReadFailed, HasWriteFailed}
+use Rattle.dap_channel.specs.declared.channel.Pipe.{Pipe}
 use Rattle.dap_channel.specs.Sent.{saturating_count}
 use Rattle.dap_frame.specs.declared.frames.End.{End}
 use Rattle.dap_frame.specs.declared.frames.End.TheVariants.{Clean, Truncated, Refused as Closed}
@@ -38,6 +39,9 @@ pub record Start (C D : Type 0) : Type 0 where
   pub most : ℕ
   pub channel : C
   pub debuggee : D
+
+abbrev pub start_of : {C D : Type 0} → Settings → ℕ → C → D → Start C D
+start_of limits most channel debuggee = record { limits = limits; most = most; channel = channel; debuggee = debuggee }
 
 -- ---- why a run stops
 
@@ -240,6 +244,11 @@ pub record Serves {C D : Type 0} (goes : C → IoEvent → C → Type 0) (shown 
   pub small : AreSmall log
   pub reason : HasReason b.most log result
 
+-- of a channel that is the log of its calls, the same of that very log
+abbrev pub ServingIsOfTheLog : {D : Type 0} → (D → Shown) → Goes D → Type 0
+ServingIsOfTheLog {D} shown follows = (b : Start (List IoEvent) D) (calls : List IoEvent) (result : Result Served ServeFault) → b.channel ≡ [] → Serves keeps_log shown follows b calls result
+    → Comes shown follows b.limits b.debuggee (bytes_read calls) (bytes_written calls) result × ReadsInTurn shown follows b.limits b.debuggee calls × (reads calls ≤ b.most) × AreSmall calls × HasReason b.most calls result
+
 -- ---- the bytes that a reader and a writer know
 
 -- unless the session ended, the reader is at its end
@@ -255,3 +264,13 @@ pub record ServesBytes {D : Type 0} (shown : D → Shown) (follows : Goes D) (li
   pub appended : Appends w w' written
   pub comes : Comes shown follows limits start read written result
   pub at_end : IsAtEndUnless r' result
+
+-- ---- a reader and a writer as a channel
+
+-- by what the reader has left, and the writer holds
+abbrev pub PipeGoes : {R W : Type 0} → (R → Option (List ℕ)) → (W → Option (List ℕ)) → Pipe R W → IoEvent → Pipe R W → Type 0
+PipeGoes left held before event after = Pipes (left before.reader) (held before.writer) event (left after.reader) (held after.writer)
+
+abbrev pub ServesPipe : {R W D : Type 0} → (R → Option (List ℕ)) → (W → Option (List ℕ)) → (D → Shown) → Goes D → Settings → D → Pipe R W → Pipe R W → Result Served ServeFault → Type 0
+ServesPipe left held shown follows limits debuggee before after result =
+    ServesBytes shown follows limits debuggee (left before.reader) (left after.reader) (held before.writer) (held after.writer) result

@@ -1,11 +1,12 @@
 //! An adapter, call by call.
-ghost use Rattle.std.specs.Prelude.{◌≡◌, ◌≢◌, ℕ, List, ◌<◌, ◌≤◌, [], length, max, IfOk, IfErr, OnOk, OnErr, IfSome, Some, None, Ok, Err, IsOk, IsTrue, false};
+ghost use Rattle.std.specs.Prelude.{◌≡◌, ◌≢◌, ℕ, List, ◌<◌, ◌≤◌, [], length, max, IfOk, IfErr, OnOk, OnErr, IfSome, Some, None, Ok, Err, IsTrue, false};
 ghost use Rattle.dap_debuggee.specs.declared.answers.State.{State};
 ghost use Rattle.dap_frame.specs.Ends.{EndsWith};
 ghost use Rattle.dap_frame.specs.Intake.{StandsFor as StandsForStream};
 ghost use Rattle.dap_frame.specs.declared.frames.End.{End};
 ghost use Rattle.dap_plan.specs.declared.fault.AdapterFault.{AdapterFault};
-ghost use Rattle.dap_adapter.specs.Calls.{Exchanges, TakeRefused};
+ghost use Rattle.dap_adapter.specs.Calls.{Exchanges, IdlesWithNone, KeepsDebuggee, KeepsDebuggeeUnlessAsked, PieceNotTakenUp, PollNotMade, PollsWithNone, TakeRefused, TurnNotMade};
+ghost use Rattle.dap_frame.specs.Closed.{StaysClosed};
 ghost use Rattle.dap_adapter.specs.PrivateReceives.{HasReceived, IsBy};
 ghost use Rattle.dap_reader.specs.declared.fault.ReadFault.{ReadFault};
 ghost use Rattle.std.specs.Option.{option_copied};
@@ -53,9 +54,7 @@ impl<D: Debuggee + Drop> Model for Adapter<D> {
 }
 
 impl<D: Debuggee + Drop> Adapter<D> {
-    ghost use Rattle.dap_adapter.specs.AdapterState.{state_of};
-    ghost use Rattle.dap_adapter.specs.Calls.{Takes, TurnGives, Handled, TurnRefused, AreFewer, Saw, PollRefused};
-    ghost use Rattle.dap_plan.specs.Polling.{has_debuggee};
+    ghost use Rattle.dap_adapter.specs.Calls.{Takes, TakesUp, TurnGives, GivesTurn, Handled, LeavesFewer, Saw};
     ghost use Rattle.dap_adapter.specs.StandsFor.{StandsFor};
     ghost use Rattle.dap_adapter.specs.declared.taken.Turned.{Turned};
 
@@ -163,20 +162,20 @@ impl<D: Debuggee + Drop> Adapter<D> {
     /// a body is whole: a piece that makes no frame whole takes none. The debuggee is as it was, unless memory is refused to a
     /// response that lets it start.
     pub fn take(&mut self, alloc: Global, piece: &[u8]) -> Result<Taken, AdapterFault>
-        ensures takes { IfOk result (λ taken. Takes D.follows self.old piece.now taken.used taken.bytes.items taken.delivered self.new) }
+        ensures takes { IfOk result (TakesUp D.follows self.old piece.now self.new) }
         ensures progress { IfOk result (λ taken. 0 < length piece.now → 0 < taken.used) }
         ensures within { IfOk result (λ taken. taken.used ≤ length piece.now) }
         ensures open { OnOk result (self.new.fault ≡ None) }
         ensures limits { self.new.session.limits ≡ self.old.session.limits }
 
         // Why it is refused; then the tables are as they were, and nothing is held.
-        ensures refused { IfErr result (λ fault. self.old.fault ≡ None → TakeRefused self.old.intake (state_of self.old) piece.now fault self.new.debuggee) }
+        ensures refused { IfErr result (PieceNotTakenUp self.old piece.now self.new) }
         ensures tables { OnErr result (self.new.session ≡ self.old.session) }
-        ensures debuggee { IfErr result (λ fault. fault ≢ AdapterFault.OutOfMemory → self.new.debuggee ≡ self.old.debuggee) }
-        ensures unasked { is_phase Asked self.old.session.phase ≡ false → OnErr result (self.new.debuggee ≡ self.old.debuggee) }
+        ensures debuggee { IfErr result (KeepsDebuggee self.old self.new) }
+        ensures unasked { KeepsDebuggeeUnlessAsked self.old self.new result }
         ensures held { OnErr result (self.new.intake.held ≡ []) }
         ensures latches { IfErr result (λ fault. self.new.fault ≡ Some fault) }
-        ensures latched { IfSome self.old.fault (λ fault. (result ≡ Err fault) × (self.new ≡ self.old)) }
+        ensures latched { StaysClosed self.old.fault result self.old self.new }
     {
         let mut bytes = Vec::new(alloc);
         match self.take_into(alloc, piece, &mut bytes) {
@@ -201,13 +200,13 @@ impl<D: Debuggee + Drop> Adapter<D> {
         ensures within { IfOk result (λ came. came.used ≤ length piece.now) }
         ensures open { OnOk result (self.new.fault ≡ None) }
         ensures limits { self.new.session.limits ≡ self.old.session.limits }
-        ensures refused { IfErr result (λ fault. self.old.fault ≡ None → TakeRefused self.old.intake (state_of self.old) piece.now fault self.new.debuggee) }
+        ensures refused { IfErr result (PieceNotTakenUp self.old piece.now self.new) }
         ensures tables { OnErr result (self.new.session ≡ self.old.session) }
-        ensures debuggee { IfErr result (λ fault. fault ≢ AdapterFault.OutOfMemory → self.new.debuggee ≡ self.old.debuggee) }
-        ensures unasked { is_phase Asked self.old.session.phase ≡ false → OnErr result (self.new.debuggee ≡ self.old.debuggee) }
+        ensures debuggee { IfErr result (KeepsDebuggee self.old self.new) }
+        ensures unasked { KeepsDebuggeeUnlessAsked self.old self.new result }
         ensures held { OnErr result (self.new.intake.held ≡ []) }
         ensures latches { IfErr result (λ fault. self.new.fault ≡ Some fault) }
-        ensures latched { IfSome self.old.fault (λ fault. (result ≡ Err fault) × (self.new ≡ self.old)) }
+        ensures latched { StaysClosed self.old.fault result self.old self.new }
         ensures buffer { OnErr result (out.new.items ≡ out.old.items) }
     {
         if let Some(fault) = self.fault {
@@ -235,22 +234,22 @@ impl<D: Debuggee + Drop> Adapter<D> {
     /// changed. `OutOfMemory` where memory is refused: then the debuggee has not changed either, unless the request is one
     /// that starts, resumes or pauses it, or sets its breakpoints. Where no request waits, no memory is asked for.
     pub fn turn(&mut self, alloc: Global) -> Result<Turned, AdapterFault>
-        ensures gives { IfOk result (λ turned. TurnGives D.shown D.follows self.old turned self.new) }
+        ensures gives { IfOk result (GivesTurn D.shown D.follows self.old self.new) }
         ensures open { OnOk result (self.new.fault ≡ None) }
         ensures limits { self.new.session.limits ≡ self.old.session.limits }
 
         // Why it is refused; then the tables are as they were, and nothing is held.
-        ensures refused { IfErr result (λ fault. self.old.fault ≡ None → TurnRefused D.shown self.old fault self.new) }
+        ensures refused { IfErr result (TurnNotMade D.shown self.old self.new) }
         ensures tables { OnErr result (self.new.session ≡ self.old.session) }
         ensures held { OnErr result (self.new.intake.held ≡ []) }
         ensures latches { IfErr result (λ fault. self.new.fault ≡ Some fault) }
-        ensures latched { IfSome self.old.fault (λ fault. (result ≡ Err fault) × (self.new ≡ self.old)) }
+        ensures latched { StaysClosed self.old.fault result self.old self.new }
 
         // Fewer requests wait to be handled, unless none did.
-        ensures fewer { IfOk result (λ turned. AreFewer turned self.old.session.kept self.new.session.kept) }
+        ensures fewer { IfOk result (LeavesFewer self.old self.new) }
 
         // Where no request waits, memory is not asked for.
-        ensures idle { self.old.fault ≡ None → oldest self.old.session.kept ≡ None → result ≡ Ok Turned.Idle }
+        ensures idle { IdlesWithNone self.old result }
     {
         let mut bytes = Vec::new(alloc);
         match self.turn_into(alloc, &mut bytes) {
@@ -271,11 +270,11 @@ impl<D: Debuggee + Drop> Adapter<D> {
         ensures done { IfOk result (λ done. IsTrue done → AppendsSome (λ bytes. Handled D.shown D.follows self.old bytes self.new) out.old.items out.new.items) }
         ensures open { OnOk result (self.new.fault ≡ None) }
         ensures limits { self.new.session.limits ≡ self.old.session.limits }
-        ensures refused { IfErr result (λ fault. self.old.fault ≡ None → TurnRefused D.shown self.old fault self.new) }
+        ensures refused { IfErr result (TurnNotMade D.shown self.old self.new) }
         ensures tables { OnErr result (self.new.session ≡ self.old.session) }
         ensures held { OnErr result (self.new.intake.held ≡ []) }
         ensures latches { IfErr result (λ fault. self.new.fault ≡ Some fault) }
-        ensures latched { IfSome self.old.fault (λ fault. (result ≡ Err fault) × (self.new ≡ self.old)) }
+        ensures latched { StaysClosed self.old.fault result self.old self.new }
         ensures fewer { IfOk result (λ done. IsTrue done → to_handle self.new.session.kept < to_handle self.old.session.kept) }
         ensures none { self.old.fault ≡ None → oldest self.old.session.kept ≡ None → result ≡ Ok false }
         ensures buffer { OnErr result (out.new.items ≡ out.old.items) }
@@ -308,14 +307,14 @@ impl<D: Debuggee + Drop> Adapter<D> {
         ensures limits { self.new.session.limits ≡ self.old.session.limits }
 
         // Why it is refused; then the tables are as they were, and nothing is held.
-        ensures refused { IfErr result (λ fault. self.old.fault ≡ None → PollRefused D.follows self.old fault self.new) }
+        ensures refused { IfErr result (PollNotMade D.follows self.old self.new) }
         ensures tables { OnErr result (self.new.session ≡ self.old.session) }
         ensures held { OnErr result (self.new.intake.held ≡ []) }
         ensures latches { IfErr result (λ fault. self.new.fault ≡ Some fault) }
-        ensures latched { IfSome self.old.fault (λ fault. (result ≡ Err fault) × (self.new ≡ self.old)) }
+        ensures latched { StaysClosed self.old.fault result self.old self.new }
 
         // Where there is no debuggee to ask, memory is not asked for.
-        ensures apart { self.old.fault ≡ None → has_debuggee self.old.session.phase ≡ false → IsOk result }
+        ensures apart { PollsWithNone self.old result }
     {
         let mut bytes = Vec::new(alloc);
         match self.poll_into(alloc, &mut bytes) {
@@ -329,12 +328,12 @@ impl<D: Debuggee + Drop> Adapter<D> {
         ensures saw { OnOk result (AppendsSome (λ bytes. Saw D.follows self.old bytes self.new) out.old.items out.new.items) }
         ensures open { OnOk result (self.new.fault ≡ None) }
         ensures limits { self.new.session.limits ≡ self.old.session.limits }
-        ensures refused { IfErr result (λ fault. self.old.fault ≡ None → PollRefused D.follows self.old fault self.new) }
+        ensures refused { IfErr result (PollNotMade D.follows self.old self.new) }
         ensures tables { OnErr result (self.new.session ≡ self.old.session) }
         ensures held { OnErr result (self.new.intake.held ≡ []) }
         ensures latches { IfErr result (λ fault. self.new.fault ≡ Some fault) }
-        ensures latched { IfSome self.old.fault (λ fault. (result ≡ Err fault) × (self.new ≡ self.old)) }
-        ensures apart { self.old.fault ≡ None → has_debuggee self.old.session.phase ≡ false → IsOk result }
+        ensures latched { StaysClosed self.old.fault result self.old self.new }
+        ensures apart { PollsWithNone self.old result }
         ensures buffer { OnErr result (out.new.items ≡ out.old.items) }
     {
         if let Some(fault) = self.fault {

@@ -1,9 +1,9 @@
 //! An adapter in a program with a loop of its own, as each debugger and each editor has: a piece at a time.
-ghost use Rattle.std.specs.Prelude.{◌≡◌, List, [], ◌++◌, true, false, IfOk, IfErr, OnOk, OnErr, IfSome, IsOk, Some, None, Ok, Err};
-ghost use Rattle.dap_adapter.specs.Parts.{AnswersPiece, PollsOn, StopsAfter, PartsJoin, CallsInTurnAddUp};
+ghost use Rattle.std.specs.Prelude.{◌≡◌, [], ◌++◌, true, false, IfOk, IfErr, OnOk, OnErr, Some, None, Ok, Err};
+ghost use Rattle.dap_adapter.specs.Parts.{AnswersAll, AnswersPiece, StaysEnded, StaysShut, StopsAfter, StopsIfOpen, TellsIfThere, TellsNothing, PartsJoin, CallsInTurnAddUp};
 ghost use Rattle.dap_adapter.specs.Polled.{TellPollsFirst};
 ghost use Rattle.dap_adapter.specs.PrivateServing.{adapter_fault_of};
-ghost use Rattle.dap_adapter.specs.Run.{to_take, to_poll, has_ended};
+ghost use Rattle.dap_adapter.specs.Run.{to_take, to_poll};
 ghost use Rattle.dap_plan.specs.Polling.{has_debuggee};
 
 use crate::adapter::Adapter;
@@ -51,16 +51,18 @@ impl<D: Debuggee + Drop> Adapter<D> {
         piece: &[u8],
         out: &mut Vec<u8>,
     ) -> Result<bool, AdapterFault>
-        ensures answers { IfOk result (λ ended. AnswersPiece D.shown D.follows self.old piece.now out.old.items self.new out.new.items ended) }
-        ensures over { self.old.fault ≡ None → has_ended self.old.session ≡ true → (result ≡ Ok true) × (self.new ≡ self.old) × (out.new ≡ out.old) }
+        ensures answers { IfOk result
+            (AnswersAll D.shown D.follows self.old piece.now out.old self.new out.new) }
+        ensures over { StaysEnded self.old self.new out.old out.new result }
         ensures open { OnOk result (self.new.fault ≡ None) }
         ensures limits { self.new.session.limits ≡ self.old.session.limits }
 
         // Why it stops; then what was made before is appended, and nothing is held.
-        ensures stops { IfErr result (λ fault. self.old.fault ≡ None → StopsAfter D.shown D.follows self.old to_take piece.now out.old.items fault self.new out.new.items) }
+        ensures stops { IfErr result
+            (StopsIfOpen D.shown D.follows self.old to_take piece.now out.old self.new out.new) }
         ensures held { OnErr result (self.new.intake.held ≡ []) }
         ensures latches { IfErr result (λ fault. self.new.fault ≡ Some fault) }
-        ensures latched { IfSome self.old.fault (λ fault. (result ≡ Err fault) × (self.new ≡ self.old) × (out.new ≡ out.old)) }
+        ensures latched { StaysShut self.old self.new out.old out.new result }
     {
         if let Some(fault) = self.fault() {
             return Err(fault);
@@ -112,17 +114,18 @@ impl<D: Debuggee + Drop> Adapter<D> {
     /// Those of `poll`; `OutOfMemory` too where memory is refused for `out`. At each, what was made before is in `out`, and the
     /// adapter is closed: each later call answers the same fault.
     pub fn tell(&mut self, alloc: Global, out: &mut Vec<u8>) -> Result<(), AdapterFault>
-        ensures tells { has_debuggee self.old.session.phase ≡ true → OnOk result (PollsOn D.shown D.follows self.old out.old.items self.new out.new.items) }
-        ensures apart { self.old.fault ≡ None → has_debuggee self.old.session.phase ≡ false → IsOk result × (self.new ≡ self.old) × (out.new ≡ out.old) }
+        ensures tells { TellsIfThere D.shown D.follows self.old self.new out.old out.new result }
+        ensures apart { TellsNothing self.old self.new out.old out.new result }
         ensures intake { OnOk result (self.new.intake ≡ self.old.intake) }
         ensures open { OnOk result (self.new.fault ≡ None) }
         ensures limits { self.new.session.limits ≡ self.old.session.limits }
 
         // Why it stops; then what was made before is appended, and nothing is held.
-        ensures stops { IfErr result (λ fault. self.old.fault ≡ None → StopsAfter D.shown D.follows self.old (to_poll 0) [] out.old.items fault self.new out.new.items) }
+        ensures stops { IfErr result
+            (StopsIfOpen D.shown D.follows self.old (to_poll 0) [] out.old self.new out.new) }
         ensures held { OnErr result (self.new.intake.held ≡ []) }
         ensures latches { IfErr result (λ fault. self.new.fault ≡ Some fault) }
-        ensures latched { IfSome self.old.fault (λ fault. (result ≡ Err fault) × (self.new ≡ self.old) × (out.new ≡ out.old)) }
+        ensures latched { StaysShut self.old self.new out.old out.new result }
     {
         if let Some(fault) = self.fault() {
             return Err(fault);

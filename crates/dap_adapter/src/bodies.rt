@@ -1,9 +1,9 @@
 //! Bodies for a transport that has frames of its own: what a header is made of, where a body comes without one, and the bodies of
 //! the frames that an adapter handed out, which are lent. It knows the header that `dap_frame::write_frame` writes.
 ghost use Rattle.std.specs.Prelude.{◌≡◌, ℕ, ◌<◌, ◌^◌, List, [], ◌∷◌, ◌++◌, length, codes, decimal, true, IfOk, IfErr, OnOk, OnErr, IfSome, Some, None, Ok, Err, MatchOption};
-ghost use Rattle.dap_adapter.specs.Bodies.{BodiesComeOneByOne};
-ghost use Rattle.dap_adapter.specs.Parts.{AnswersPiece, StopsAfter};
-ghost use Rattle.dap_adapter.specs.Run.{to_take, has_ended};
+ghost use Rattle.dap_adapter.specs.Bodies.{BodiesComeOneByOne, LendsFirstBody};
+ghost use Rattle.dap_adapter.specs.Parts.{AnswersAll, StaysEnded, StaysShut, StopsIfOpen};
+ghost use Rattle.dap_adapter.specs.Run.{to_take};
 ghost use Rattle.dap_frame.specs.Written.{frame_of};
 
 use crate::adapter::Adapter;
@@ -28,16 +28,18 @@ impl<D: Debuggee + Drop> Adapter<D> {
         body: &[u8],
         out: &mut Vec<u8>,
     ) -> Result<bool, AdapterFault>
-        ensures answers { IfOk result (λ ended. AnswersPiece D.shown D.follows self.old (frame_of body.now) out.old.items self.new out.new.items ended) }
-        ensures over { self.old.fault ≡ None → has_ended self.old.session ≡ true → (result ≡ Ok true) × (self.new ≡ self.old) × (out.new ≡ out.old) }
+        ensures answers { IfOk result
+            (AnswersAll D.shown D.follows self.old (frame_of body.now) out.old self.new out.new) }
+        ensures over { StaysEnded self.old self.new out.old out.new result }
         ensures open { OnOk result (self.new.fault ≡ None) }
         ensures limits { self.new.session.limits ≡ self.old.session.limits }
 
         // Why it stops; then what was made before is appended, and nothing is held.
-        ensures stops { IfErr result (λ fault. self.old.fault ≡ None → StopsAfter D.shown D.follows self.old to_take (frame_of body.now) out.old.items fault self.new out.new.items) }
+        ensures stops { IfErr result
+            (StopsIfOpen D.shown D.follows self.old to_take (frame_of body.now) out.old self.new out.new) }
         ensures held { OnErr result (self.new.intake.held ≡ []) }
         ensures latches { IfErr result (λ fault. self.new.fault ≡ Some fault) }
-        ensures latched { IfSome self.old.fault (λ fault. (result ≡ Err fault) × (self.new ≡ self.old) × (out.new ≡ out.old)) }
+        ensures latched { StaysShut self.old self.new out.old out.new result }
     {
         if let Some(fault) = self.fault() {
             return Err(fault);
@@ -88,7 +90,7 @@ fn split_digits(bytes: &[u8]) -> Option<(&[u8], &[u8])>
 /// The body of the first frame of those that an adapter handed out, lent, and what is behind it; `None` where nothing is left. Of
 /// other bytes nothing is promised: this is no reader of a peer's frames. So all bodies are told by `while let Some((body, later)) = first_body(rest)`, and none is copied.
 pub fn first_body(frames: &[u8]) -> Option<(&[u8], &[u8])>
-    ensures first { (body rest : List ℕ) → frames.now ≡ frame_of body ++ rest → MatchOption result ⊥ (λ r. (r.0.now ≡ body) × (r.1.now ≡ rest)) }
+    ensures first { LendsFirstBody frames.now result }
     ensures shorter { IfSome result (λ r. length r.1.now < length frames.now) }
 {
     // For the proof: a length fits into 64 bits.

@@ -5,10 +5,10 @@ ghost use Rattle.dap_plan.specs.Session.{to_handle};
 ghost use Rattle.dap_decision.specs.Table.{is_phase};
 ghost use Rattle.dap_decision.specs.declared.phase.Phase.{Phase};
 ghost use Rattle.dap_adapter.specs.Run.{to_take, to_turn, to_poll, has_ended};
-ghost use Rattle.dap_channel.specs.Channel.{IoEvent, Pipes, bytes_read, bytes_written, reads, keeps_log};
+ghost use Rattle.dap_channel.specs.Channel.{reads};
 ghost use Rattle.dap_adapter.specs.declared.served.Served.{Served};
 ghost use Rattle.dap_adapter.specs.declared.served.ServeFault.{ServeFault};
-ghost use Rattle.dap_adapter.specs.Served.{Start, Serves, ServesBytes, Comes, ReadsInTurn, AreSmall, HasReason};
+ghost use Rattle.dap_adapter.specs.Served.{Start, Serves, ServesPipe, PipeGoes, ServingIsOfTheLog, start_of};
 ghost use Rattle.dap_adapter.specs.PrivateServing.{served_by, progress_of, place_at, way_of, point_of, Reaches, Leads, Breaks, Quietly, next_after, next_if, Uses, UsesUp, EndsIn, serve_fault_of};
 
 use crate::adapter::Adapter;
@@ -352,7 +352,8 @@ pub fn serve_channel<C: Channel, D: Debuggee + Drop>(
     max_reads: u64,
 ) -> Result<Served, ServeFault>
     requires { (D.shown debuggee).state ≡ State.NotStarted }
-    ensures { Serves C.goes D.shown D.follows (record { limits = limits; most = max_reads; channel = channel.old; debuggee = debuggee }) channel.new result }
+    ensures { Serves C.goes D.shown D.follows
+        (start_of limits max_reads channel.old debuggee) channel.new result }
 {
     // A law for the proof: also where memory is refused at once, no bytes are a stream with one split.
     each_stream_has_one_split();
@@ -379,8 +380,10 @@ pub fn serve<R: Read, W: Write, D: Debuggee + Drop>(
     max_reads: u64,
 ) -> Result<Served, ServeFault>
     requires { (D.shown debuggee).state ≡ State.NotStarted }
-    ensures bytes { ServesBytes D.shown D.follows limits debuggee (R.remaining pipe.old.reader) (R.remaining pipe.new.reader) (W.contents pipe.old.writer) (W.contents pipe.new.writer) result }
-    ensures calls { Serves (λ p e q. Pipes (R.remaining p.reader) (W.contents p.writer) e (R.remaining q.reader) (W.contents q.writer)) D.shown D.follows (record { limits = limits; most = max_reads; channel = pipe.old; debuggee = debuggee }) pipe.new result }
+    ensures bytes { ServesPipe R.remaining W.contents D.shown D.follows
+        limits debuggee pipe.old pipe.new result }
+    ensures calls { Serves (PipeGoes R.remaining W.contents) D.shown D.follows
+        (start_of limits max_reads pipe.old debuggee) pipe.new result }
 {
     pipes_tell_their_bytes::<R, W>();
     serve_channel(alloc, pipe, debuggee, limits, max_reads)
@@ -388,8 +391,7 @@ pub fn serve<R: Read, W: Write, D: Debuggee + Drop>(
 
 /// A law: of a channel that is the log of its calls, what `serve_channel` says is said of that very log.
 pub fn serving_is_of_the_log<D: Debuggee + Drop>()
-    ensures { (b : Start (List IoEvent) D) (calls : List IoEvent) (result : Result Served ServeFault) → b.channel ≡ [] → Serves keeps_log D.shown D.follows b calls result
-        → Comes D.shown D.follows b.limits b.debuggee (bytes_read calls) (bytes_written calls) result × ReadsInTurn D.shown D.follows b.limits b.debuggee calls × (reads calls ≤ b.most) × AreSmall calls × HasReason b.most calls result }
+    ensures { ServingIsOfTheLog D.shown D.follows }
 {
     calls_are_the_log();
 }

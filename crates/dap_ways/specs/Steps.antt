@@ -1,8 +1,7 @@
 -- A call of an end as a step, in every world of bytes with that end.
 -- Overview, "Base Protocol".
 use Rattle.std.specs.Prelude.{◌≡◌, ℕ, List, ◌++◌, drop, None, Ok, Vec}
-use Rattle.dap_adapter.specs.AdapterState.{AdapterState, state_of}
-use Rattle.dap_adapter.specs.Calls.{PollRefused, TakeRefused, TurnRefused}
+use Rattle.dap_adapter.specs.AdapterState.{AdapterState}
 use Rattle.dap_plan.specs.declared.fault.AdapterFault.{AdapterFault}
 use Rattle.dap_adapter.specs.declared.taken.Taken.{Taken}
 use Rattle.dap_adapter.specs.declared.taken.Turned.{Turned}
@@ -50,14 +49,3 @@ TakeUpSteps shown follows old piece new taken = AdapterStepsOver shown follows o
 
 abbrev pub PollSteps : {D A : Type 0} → (D → Shown) → Goes D → AdapterState D → AdapterState D → Vec ℕ A → Type 0
 PollSteps shown follows old new bytes = AdapterSteps shown follows old bytes.items new
-
--- ---- why an adapter that no fault has closed does not take a piece, make a turn or poll
-
-abbrev pub PieceNotTakenUp : {D : Type 0} → AdapterState D → List ℕ → AdapterState D → AdapterFault → Type 0
-PieceNotTakenUp old piece new fault = old.fault ≡ None → TakeRefused old.intake (state_of old) piece fault new.debuggee
-
-abbrev pub TurnNotMade : {D : Type 0} → (D → Shown) → AdapterState D → AdapterState D → AdapterFault → Type 0
-TurnNotMade shown old new fault = old.fault ≡ None → TurnRefused shown old fault new
-
-abbrev pub PollNotMade : {D : Type 0} → Goes D → AdapterState D → AdapterState D → AdapterFault → Type 0
-PollNotMade follows old new fault = old.fault ≡ None → PollRefused follows old fault new

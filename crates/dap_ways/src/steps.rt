@@ -6,7 +6,8 @@ ghost use Rattle.dap_client.specs.TerminalResponse.{is_plain_terminal};
 ghost use Rattle.dap_debuggee.specs.declared.answers.State.{State};
 ghost use Rattle.dap_call.specs.PlainCall.{is_plain_call};
 ghost use Rattle.dap_ways.specs.ByteWorld.{IsFreshAdapter, IsFreshClient};
-ghost use Rattle.dap_ways.specs.Steps.{AdapterSteps, TurnSteps, SendSteps, AnswerSteps, TakeDownSteps, TakeUpSteps, PollSteps, PieceNotTakenUp, TurnNotMade, PollNotMade};
+ghost use Rattle.dap_ways.specs.Steps.{AdapterSteps, TurnSteps, SendSteps, AnswerSteps, TakeDownSteps, TakeUpSteps, PollSteps};
+ghost use Rattle.dap_adapter.specs.Calls.{PieceNotTakenUp, TurnNotMade, PollNotMade};
 
 use dap_adapter::{Adapter, AdapterFault, Taken, Turned};
 use dap_call::Call;
