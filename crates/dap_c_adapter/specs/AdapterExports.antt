@@ -1,6 +1,6 @@
 -- What the exports of an adapter do, each word over the adapter behind the handle.
 -- A word on an export takes what the caller gives, the code, what is told, and the adapter before and after.
-use Rattle.std.specs.Prelude.{◌≡◌, ◌⊎◌, ℕ, ℤ, List, [], ◌∷◌, ◌++◌, length, Bool, true, false, if◌then◌else◌, Option, Some, None, Result, Ok, unwrap_or, IfOk, IfSome}
+use Rattle.std.specs.Prelude.{◌≡◌, ◌⊎◌, ◌<◌, ℕ, ℤ, List, [], ◌∷◌, ◌++◌, length, Bool, true, false, if◌then◌else◌, Option, Some, None, Result, Ok, unwrap_or, IfOk, IfSome}
 use Rattle.dap_plan.specs.Polling.{has_debuggee}
 use Rattle.dap_decision.specs.Table.{is_phase}
 use Rattle.dap_decision.specs.declared.phase.Phase.TheVariants.{Asked}
@@ -126,6 +126,10 @@ TellsWhere P code found old new = (given : Result Coming ℕ) × IfOk given (λ 
 
 abbrev pub Outputs : ℕ → List ℕ → ℕ → YtFound → HeldAdapter → HeldAdapter → Type 0
 Outputs category output code found old new = TellsWhere (λ told. told ≡ said.Output (category_of category) output) code found old new
+
+-- there are three categories, from 0 on
+abbrev pub RefusesUnknown : ℕ → ℕ → HeldAdapter → HeldAdapter → Type 0
+RefusesUnknown category code old new = 2 < category → code ≡ 103
 
 abbrev pub TellsStop : List ℕ → ℤ → List ℕ → Bool → ℕ → YtFound → HeldAdapter → HeldAdapter → Type 0
 TellsStop reason thread shows later code found old new = TellsWhere (IsStop old.adapter.debuggee.sources reason thread (json_of shows) later) code found old new

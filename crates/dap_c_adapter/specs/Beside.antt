@@ -1,5 +1,5 @@
 -- What a host says beside a variable or a value, as a caller in C says it.
-use Rattle.std.specs.Prelude.{ℕ, List, [], ◌∷◌, Option, None, option_and_then}
+use Rattle.std.specs.Prelude.{ℕ, List, [], ◌∷◌, Option, None, option_and_then, IsUtf8}
 use Rattle.std.specs.Option.{IsSome}
 use Rattle.dap_json.specs.More.{more_of}
 use Rattle.dap_json.specs.Read.{json_of}
@@ -14,3 +14,7 @@ said_by (b ∷ bytes) = option_and_then more_of (json_of (b ∷ bytes))
 abbrev pub CanBeSaid : List ℕ → Type 0
 CanBeSaid [] = Unit {0}
 CanBeSaid (b ∷ bytes) = IsSome (option_and_then more_of (json_of (b ∷ bytes)))
+
+-- two texts, and what is said beside
+abbrev pub CanBeTold : List ℕ → List ℕ → List ℕ → Type 0
+CanBeTold name value more = IsUtf8 name × IsUtf8 value × CanBeSaid more

@@ -1,10 +1,10 @@
 //! What a host says beside a variable or a value: the members of a JSON object.
-ghost use Rattle.std.specs.Prelude.{◌≡◌, ◌≢◌, ◌×◌, IfOk, IfErr, IsUtf8, Some, None, if◌then◌else◌, unwrap_or};
+ghost use Rattle.std.specs.Prelude.{◌≡◌, ◌≢◌, [], IfOk, IfErr, Some, None, if◌then◌else◌, unwrap_or};
 ghost use Rattle.dap_live.specs.declared.mail.Coming.TheVariants as said;
 ghost use Rattle.dap_c_adapter.specs.AdapterCalls.{IsCodeOfText, KeepsActs};
 ghost use Rattle.dap_c_adapter.specs.AdapterBehind.{IsFull, IsEmpty, FromTo, FromEmpty};
 ghost use Rattle.dap_c_adapter.specs.AdapterExports.{KeepsLimits, KeepsFrame, KeepsAllElse, KeepsGathered, LeavesBytes, TellsLearnedWith, LatchesUnlessText, StaysOpenApart, AcceptsText, GathersWith};
-ghost use Rattle.dap_c_adapter.specs.Beside.{CanBeSaid, said_by};
+ghost use Rattle.dap_c_adapter.specs.Beside.{CanBeSaid, CanBeTold, said_by};
 
 use crate::adapter_handle::YtAdapter;
 use crate::telling::{holder_given, keep_variable, tell_handle, value_given, variable_given};
@@ -48,7 +48,7 @@ fn value_with(
 ) -> Result<Coming, u32>
     ensures said { IfOk result (λ told. told ≡ said.Learned asked.now (if known then Some value.now else None) holder (said_by more.now)) }
     ensures can { IfOk result (λ told. CanBeSaid more.now) }
-    ensures wanted { IsUtf8 asked.now → IsUtf8 value.now → CanBeSaid more.now → IfErr result (λ code. code ≡ YT_NO_MEMORY) }
+    ensures wanted { CanBeTold asked.now value.now more.now → IfErr result (λ code. code ≡ YT_NO_MEMORY) }
     ensures code { IfErr result IsCodeOfText }
 {
     let said = said_given(alloc, more)?;
@@ -64,7 +64,7 @@ fn variable_with(
 ) -> Result<Variable, u32>
     ensures variable { IfOk result (λ variable. variable ≡ record { name = name.now; value = value.now; holder = holder; more = unwrap_or (said_by more.now) [] }) }
     ensures can { IfOk result (λ variable. CanBeSaid more.now) }
-    ensures wanted { IsUtf8 name.now → IsUtf8 value.now → CanBeSaid more.now → IfErr result (λ code. code ≡ YT_NO_MEMORY) }
+    ensures wanted { CanBeTold name.now value.now more.now → IfErr result (λ code. code ≡ YT_NO_MEMORY) }
     ensures code { IfErr result IsCodeOfText }
 {
     let said = said_given(alloc, more)?;
@@ -93,7 +93,7 @@ pub extern "C" fn yt_adapter_learned_with(
     ensures latched { FromTo adapter.old adapter.new (LatchesUnlessText result) }
     ensures apart { FromTo adapter.old adapter.new StaysOpenApart }
     ensures length { FromTo adapter.old adapter.new (LeavesBytes found.new.bytes) }
-    ensures wanted { IsUtf8 asked.now → IsUtf8 value.now → CanBeSaid more.now → AcceptsText result }
+    ensures wanted { CanBeTold asked.now value.now more.now → AcceptsText result }
     ensures limits { FromTo adapter.old adapter.new KeepsLimits }
     ensures frame { FromTo adapter.old adapter.new KeepsFrame }
     ensures acts { FromTo adapter.old adapter.new KeepsActs }
@@ -122,7 +122,7 @@ pub extern "C" fn yt_adapter_variable_with(
     ensures acts { FromTo adapter.old adapter.new KeepsActs }
     ensures gathers { GathersWith adapter.old adapter.new name.now value.now has_parts holder more.now result }
     ensures refused { FromTo adapter.old adapter.new (λ a b. result ≢ YT_OK → KeepsGathered a b) }
-    ensures wanted { IsUtf8 name.now → IsUtf8 value.now → CanBeSaid more.now → result ≢ YT_BAD_ARGUMENTS }
+    ensures wanted { CanBeTold name.now value.now more.now → result ≢ YT_BAD_ARGUMENTS }
 {
     let Some(mut held) = take_out(alloc, adapter) else {
         return YT_NONE;

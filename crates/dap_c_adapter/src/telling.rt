@@ -12,7 +12,7 @@ ghost use Rattle.dap_c_adapter.specs.AdapterCalls.{AdapterSaw, RefusesPoll, Tell
 ghost use Rattle.dap_c_adapter.specs.AdapterFaults.{adapter_number, IsAdapterFaultFound};
 ghost use Rattle.dap_live.specs.declared.mail.Coming.TheVariants as said;
 ghost use Rattle.dap_c_adapter.specs.AdapterBehind.{IsFull, IsEmpty, FromTo, FromEmpty};
-ghost use Rattle.dap_c_adapter.specs.AdapterExports.{KeepsLimits, KeepsFrame, KeepsAllElse, KeepsGathered, LeavesBytes, LatchesAndTells, Outputs, TellsStop, ShowsNoMoment, TellsLearned, TellsSources, TellsGoingOn, TellsExit, TellsVariables, LatchesUnlessText, StaysOpenApart, AcceptsText, Gathers};
+ghost use Rattle.dap_c_adapter.specs.AdapterExports.{KeepsLimits, KeepsFrame, KeepsAllElse, KeepsGathered, LeavesBytes, LatchesAndTells, Outputs, RefusesUnknown, TellsStop, ShowsNoMoment, TellsLearned, TellsSources, TellsGoingOn, TellsExit, TellsVariables, LatchesUnlessText, StaysOpenApart, AcceptsText, Gathers};
 
 use crate::adapter::{adapter_code, adapter_fault_found, only_bytes};
 use crate::adapter_handle::YtAdapter;
@@ -258,7 +258,7 @@ pub extern "C" fn yt_adapter_output(
     ensures apart { FromTo adapter.old adapter.new StaysOpenApart }
     ensures length { FromTo adapter.old adapter.new (LeavesBytes found.new.bytes) }
     ensures wanted { category ≤ 2 → IsUtf8 output.now → AcceptsText result }
-    ensures unknown { FromTo adapter.old adapter.new (λ a b. 2 < category → result ≡ YT_BAD_ARGUMENTS) }
+    ensures unknown { FromTo adapter.old adapter.new (RefusesUnknown category result) }
     ensures limits { FromTo adapter.old adapter.new KeepsLimits }
     ensures frame { FromTo adapter.old adapter.new KeepsFrame }
     ensures acts { FromTo adapter.old adapter.new KeepsActs }

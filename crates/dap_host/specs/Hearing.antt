@@ -1,6 +1,6 @@
 -- What a host's line leads to: it is skipped, or refused, or an adapter over a fed debuggee takes what it says. The format is this
 -- profile's choice.
-use Rattle.std.specs.Prelude.{◌≡◌, ℕ, ◌+◌, ◌<◌, ◌≤◌, nat_lt, Bool, true, false, List, [], ◌∷◌, ◌++◌, length, take, drop, codes, bytes_eq, Option, Some, None, Ok, Err, if◌then◌else◌}
+use Rattle.std.specs.Prelude.{◌≡◌, ◌≢◌, ℕ, ◌+◌, ◌<◌, ◌≤◌, nat_lt, Bool, true, false, List, [], ◌∷◌, ◌++◌, length, take, drop, codes, bytes_eq, Option, Some, None, Ok, Err, if◌then◌else◌}
 use Rattle.dap_adapter.specs.AdapterState.{AdapterState}
 use Rattle.dap_adapter.specs.Parts.{StopsAfter}
 use Rattle.dap_adapter.specs.Run.{to_take, to_poll, has_ended}
@@ -25,11 +25,13 @@ use Rattle.dap_host.specs.Fed.{AnswersFed, TellsFed, over_mail}
 use Rattle.dap_envelope.specs.Refusals.{Bad}
 use Rattle.dap_envelope.specs.declared.message.Message.{Message}
 use Rattle.dap_json.specs.Read.{json_of}
-use Rattle.dap_recording.specs.Reading.{file_sources}
+use Rattle.dap_recording.specs.Reading.{IsVerdict, file_sources}
+use Rattle.dap_recording.specs.declared.reading.RecordingFault.{RecordingFault}
 use Rattle.dap_recording.specs.declared.recording.RecordedSource.{RecordedSource}
 use Rattle.dap_plan.specs.Session.{fresh_session}
 use Rattle.dap_tables.specs.References.{target_of}
 use Rattle.dap_plan.specs.declared.fault.AdapterFault.{AdapterFault}
+use Rattle.dap_plan.specs.declared.fault.AdapterFault.TheVariants.{OutOfMemory}
 use Rattle.dap_line.specs.Moments.{IsComing, Fails, HasRoom}
 use Rattle.dap_line.specs.Told.{IsMessage, said_of, happening_of}
 use Rattle.dap_line.specs.Written.{message_lines, act_lines, refusal_line, target_line}
@@ -74,6 +76,10 @@ pub record IsFresh (limits : Settings) (longest : ℕ) (bytes : List ℕ) (h : H
   pub limits_are : h.limits ≡ limits
   pub longest_is : h.longest ≡ longest
   pub number : h.number ≡ 0
+
+-- why a file is refused
+abbrev pub RefusesFile : List ℕ → RecordingFault → Type 0
+RefusesFile bytes fault = IsVerdict (Err fault) (file_sources (json_of bytes))
 
 -- a line more came
 abbrev pub counted : HostState → HostState
@@ -214,6 +220,10 @@ is_too_long h line = nat_lt h.longest (length line)
 abbrev pub Hears : HostState → List ℕ → List ℕ → List ℕ → HostState → Type 0
 Hears old line before after new = HearsIf (is_too_long old line) old line before after new
 
+-- whatever a line says that has more bytes than one may have
+abbrev pub HearsLonger : HostState → List ℕ → List ℕ → HostState → Type 0
+HearsLonger old before after new = (line : List ℕ) → old.longest < length line → Hears old line before after new
+
 -- ---- why it stops, where memory is not refused: the adapter is closed within an answer, and what it wrote before is appended
 
 pub record StopsMessage (old : HostState) (body before after : List ℕ) (new : HostState) (fault : AdapterFault) : Type 0 where
@@ -237,3 +247,6 @@ StopsIf false old line before after new fault = StopsMarked (mark_of line) (coun
 
 abbrev pub Stops : HostState → List ℕ → List ℕ → List ℕ → HostState → AdapterFault → Type 0
 Stops old line before after new fault = StopsIf (is_too_long old line) old line before after new fault
+
+abbrev pub Halts : HostState → List ℕ → List ℕ → List ℕ → HostState → AdapterFault → Type 0
+Halts old line before after new fault = fault ≢ OutOfMemory → Stops old line before after new fault

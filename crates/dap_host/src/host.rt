@@ -116,10 +116,8 @@ impl Model for Host {
 
 impl Host {
     ghost use Rattle.std.specs.Prelude.{◌≡◌, ◌≢◌, ◌↔◌, ◌<◌, ◌++◌, List, ℕ, length, IfOk, IfErr, OnOk, OnErr, IfSome, IsTrue, None, Ok, Err, true, false};
-    ghost use Rattle.dap_host.specs.Hearing.{IsFresh, IsGoing, RefusesMessage, TakesMessage, Comes, HearsTold, IsUnheard, AnswersMessage, dropped_line, TellsIt, TellsOrDrops, StopsMessage, StopsTelling, HearsMessage, HearsHappening, HearsMarked, StopsMarked, HearsText, Hears, Stops, counted};
-    ghost use Rattle.dap_json.specs.Read.{json_of};
+    ghost use Rattle.dap_host.specs.Hearing.{IsFresh, IsGoing, RefusesMessage, TakesMessage, Comes, HearsTold, IsUnheard, AnswersMessage, dropped_line, TellsIt, TellsOrDrops, StopsMessage, StopsTelling, HearsMessage, HearsHappening, HearsMarked, StopsMarked, HearsText, Hears, HearsLonger, Halts, RefusesFile, counted};
     ghost use Rattle.dap_line.specs.Moments.{HasRoom};
-    ghost use Rattle.dap_recording.specs.Reading.{IsVerdict, file_sources};
     ghost use Rattle.dap_line.specs.Told.{said_of};
     ghost use Rattle.dap_line.specs.Written.{message_lines, refusal_line, target_line};
     ghost use Rattle.dap_line.specs.declared.told.Said.{Said};
@@ -142,7 +140,7 @@ impl Host {
     ) -> Result<Host, RecordingFault>
         ensures fresh { IfOk result (IsFresh limits longest bytes.now) }
         ensures going { IfOk result IsGoing }
-        ensures refused { IfErr result (λ fault. IsVerdict (Err fault) (file_sources (json_of bytes.now))) }
+        ensures refused { IfErr result (RefusesFile bytes.now) }
     {
         // For the proof: no message is under way.
         limits_are_in_range(&limits);
@@ -181,7 +179,7 @@ impl Host {
         ensures going { OnOk result (IsGoing self.new) }
 
         // Why it stops.
-        ensures stops { IfErr result (λ fault. fault ≢ AdapterFault.OutOfMemory → Stops self.old line.now out.old.items out.new.items self.new fault) }
+        ensures stops { IfErr result (Halts self.old line.now out.old.items out.new.items self.new) }
     {
         if line.len() > self.longest() {
             return self.hear_too_long(out);
@@ -221,7 +219,7 @@ impl Host {
     /// `OutOfMemory` alone: then a part of the refusal may be appended.
     pub fn hear_too_long(&mut self, out: &mut Vec<u8>) -> Result<(), AdapterFault>
         requires { IsGoing self.old }
-        ensures hears { OnOk result ((line : List ℕ) → self.old.longest < length line → Hears self.old line out.old.items out.new.items self.new) }
+        ensures hears { OnOk result (HearsLonger self.old out.old.items out.new.items self.new) }
         ensures going { OnOk result (IsGoing self.new) }
         ensures memory { IfErr result (λ fault. fault ≡ AdapterFault.OutOfMemory) }
     {
