@@ -3,6 +3,7 @@
 use Rattle.std.proofs.Common.{◌≡◌, ℕ, ◌+◌, ◌%◌, ◌^◌, ◌⊎◌, inl, inr, Bool, true, false, not, arith, List, codes, IsTrue, Option, Some, refl, sym, ap, subst, ◌∙◌}
 use Rattle.dap_command.specs.declared.source_key.SourceKey.{SourceKey}
 use Rattle.dap_debuggee.specs.Shown.{Shown, Act, to_start, to_resume, to_pause, to_poll, to_set_breakpoints, to_assign, to_end, Reply, done, refused, happened, asked_of_act, Last}
+use Rattle.dap_debuggee.specs.declared.answers.Assigned.{Assigned}
 use Rattle.dap_debuggee.specs.Laws.{may_answer, state_after, lines_after, keeps_answers, keeps_frames, Counts, Remembers, Answers, Moves, SetsLines, SetsValues, SetsOneValue, KeepsAnswers, KeepsFrames, KeepsSources, FramesStay, SourcesStay, SameFrames, SameSources, SameAnswers, NoThreads, VerifiesEach, AssignsVariables}
 use Rattle.dap_replay.specs.Played.{Played, lines_in, shown_of, FollowsPlayed}
 use Rattle.dap_debuggee.specs.StayLaws.{frames-stay, sources-stay}
@@ -182,8 +183,8 @@ its_sources_stay : (v w : StubbornView) → SourcesStay (shown_of v.inner) (show
 its_sources_stay v w s = record { sources = s.sources; content = s.content }
 
 -- of the recording it is the long value that is told, and that is set
-one_value : (v w : StubbornView) (holder : ℕ) (name value : List ℕ) → SetsOneValue holder name value (shown_of v.inner) (shown_of w.inner) → SetsOneValue holder name value (shown_stubborn v) (shown_stubborn w)
-one_value v w holder name value s = record {
+one_value : (v w : StubbornView) (holder : ℕ) (name : List ℕ) (a : Assigned) → SetsOneValue holder name a (shown_of v.inner) (shown_of w.inner) → SetsOneValue holder name a (shown_stubborn v) (shown_stubborn w)
+one_value v w holder name a s = record {
   threads = s.threads;
   frames = s.frames;
   scopes = s.scopes;
@@ -197,7 +198,7 @@ pub sets_values-stubborn : SetsValues shown_stubborn FollowsStubborn
 sets_values-stubborn v w holder name text r (inl f) = absurd (cc f.act)
 sets_values-stubborn v w holder name text r (inr f) =
     let inner = sets_values-played v.inner w.inner holder name long_value r f.inner in
-    record { value = inner.value; more = inner.more; told = inner.told; set = one_value v w holder name inner.value inner.set }
+    record { assigned = inner.assigned; told = inner.told; set = one_value v w holder name inner.assigned inner.set }
 
 -- a view of the same recording
 itself : (v : Played) → SameAnswers (shown_of v) (shown_of v)
