@@ -3,7 +3,8 @@
 use Rattle.std.specs.Prelude.{◌≡◌, ℕ, ◌+◌, ◌<◌, ◌≤◌, List, [], ◌∷◌, length, Option, Result, Ok, Err, Vec}
 use Rattle.std.specs.Io.KnownBytes.{Consumes}
 use Rattle.std.specs.declared.alloc.Global.{Global}
-use Rattle.dap_channel.specs.Channel.{IoEvent, Gave, ReadFailed, Took, WriteFailed, Flushed, FlushFailed, Ran, bytes_read, MayGoOn, HasEnded, HasReadFailed}
+use Rattle.dap_channel.specs.Channel.{IoEvent, Inputs, keeps_log, Gave, ReadFailed, Took, WriteFailed, Flushed, FlushFailed, Ran, bytes_read, MayGoOn, HasEnded, HasReadFailed}
+use Rattle.dap_channel.specs.declared.channel.Input.{Input}
 use Rattle.dap_tool.specs.declared.files.FileFault.{FileFault}
 use Rattle.dap_tool.specs.declared.files.FileFault.TheVariants.{Read, FileTooLong, OutOfMemory}
 
@@ -65,3 +66,20 @@ abbrev pub LeavesFile : Option (List ℕ) → Option (List ℕ) → FileFault �
 LeavesFile r r' Read = (s : List ℕ) × Consumes r r' s × (length s ≤ max_file)
 LeavesFile r r' FileTooLong = (s : List ℕ) × Consumes r r' s × (max_file < length s) × (length s ≤ max_file + 65536)
 LeavesFile r r' OutOfMemory = (s : List ℕ) × Consumes r r' s × (length s ≤ max_file + 65536)
+
+-- ---- an input as a channel
+
+-- by what its reader has left
+abbrev pub InputGoes : {R : Type 0} → (R → Option (List ℕ)) → Input R → IoEvent → Input R → Type 0
+InputGoes left before event after = Inputs (left before.reader) event (left after.reader)
+
+-- just these bytes were read of it
+abbrev pub IsReadOff : {R : Type 0} → (R → Option (List ℕ)) → Input R → Input R → Vec ℕ Global → Type 0
+IsReadOff left before after bytes = Consumes (left before.reader) (left after.reader) bytes.items
+
+abbrev pub LeavesInput : {R : Type 0} → (R → Option (List ℕ)) → Input R → Input R → FileFault → Type 0
+LeavesInput left before after fault = LeavesFile (left before.reader) (left after.reader) fault
+
+-- of a channel that is the log of its calls, what is said of reading a file is said of that very log
+abbrev pub ReadingIsOfTheLog : Type 0
+ReadingIsOfTheLog = (calls : List IoEvent) (result : Result (Vec ℕ Global) FileFault) → ReadsWhole keeps_log [] calls result → AreReads calls × AreDue calls × HasReason calls result

@@ -1,8 +1,12 @@
 -- What a program prints of a transcript that it checks. It is this profile's choice.
-use Rattle.std.specs.Prelude.{◌≡◌, ◌↔◌, ℕ, ◌==◌, List, [], ◌∷◌, ◌++◌, Bool, true, false, ◌&&◌, length, take, flat_map, codes, decimal, if◌then◌else◌, Option, Some, None, is_some}
+use Rattle.std.specs.Prelude.{◌≡◌, ◌↔◌, ℕ, ◌==◌, List, [], ◌∷◌, ◌++◌, Bool, true, false, ◌&&◌, length, take, flat_map, codes, decimal, if◌then◌else◌, Option, Some, None, is_some, MatchResult, Result}
 use Rattle.std.specs.List.{list_any}
+use Rattle.std.specs.Str.Lines.{lines}
 use Rattle.dap_check.specs.Findings.{open_requests}
 use Rattle.dap_check.specs.Legal.{number_of, least_broken, IsLegal}
+use Rattle.dap_check.specs.Transcript.{AreLines}
+use Rattle.dap_check.specs.declared.checking.CheckFault.{CheckFault}
+use Rattle.dap_check.specs.declared.checking.CheckFault.TheVariants.{OutOfMemory}
 use Rattle.dap_check.specs.declared.line.Line.{Line}
 use Rattle.dap_check.specs.declared.rule.AnySeq.{AnySeq}
 use Rattle.dap_check.specs.declared.rule.Checked.{Checked}
@@ -106,3 +110,13 @@ has_fault lines = list_any (λ line. is_some (fault_in line.message.kind)) lines
 pub record IsVerdictText (options : CheckOptions) (lines : List Line) (printed : VerdictText) : Type 0 where
   pub text : printed.text.items ≡ text_of_verdict options lines
   pub legal : (printed.is_legal ≡ true) ↔ (IsLegal options.any_seq lines × ((options.bodies && has_fault lines) ≡ false))
+
+-- ---- of a transcript that is given as bytes
+
+-- they have lines, and this is printed of them
+abbrev pub IsVerdictTextOn : CheckOptions → List ℕ → VerdictText → Type 0
+IsVerdictTextOn options bytes printed = (transcript : List Line) × AreLines 1 (lines bytes) transcript × IsVerdictText options transcript printed
+
+-- where they have lines, what is printed of them is the answer, unless memory is refused
+abbrev pub GivesVerdictText : CheckOptions → List ℕ → Result VerdictText CheckFault → Type 0
+GivesVerdictText options bytes result = (transcript : List Line) → AreLines 1 (lines bytes) transcript → MatchResult result (IsVerdictText options transcript) (λ fault. fault ≡ OutOfMemory)

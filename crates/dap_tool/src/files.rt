@@ -1,9 +1,8 @@
 //! Files, read whole.
 
-ghost use Rattle.std.specs.Prelude.{ℕ, ◌≤◌, List, [], length, IfOk, IfErr, Result, Vec};
-ghost use Rattle.std.specs.Io.KnownBytes.{Consumes, IsAtEnd};
-ghost use Rattle.dap_channel.specs.Channel.{IoEvent, Inputs, keeps_log};
-ghost use Rattle.dap_tool.specs.Files.{max_file, AreReads, AreDue, HasReason, ReadsWhole, LeavesFile};
+ghost use Rattle.std.specs.Prelude.{◌≤◌, length, IfOk, IfErr, Result, Vec};
+ghost use Rattle.std.specs.Io.KnownBytes.{IsAtEnd};
+ghost use Rattle.dap_tool.specs.Files.{max_file, ReadsWhole, InputGoes, IsReadOff, LeavesInput, ReadingIsOfTheLog};
 ghost use Rattle.dap_tool.specs.declared.files.FileFault.{FileFault};
 
 use dap_channel::{Channel, Input, calls_are_the_log, inputs_tell_their_bytes};
@@ -98,11 +97,11 @@ pub fn read_whole<R: Read>(
     input: &mut Input<R>,
     expected: u64,
 ) -> Result<Vec<u8>, FileFault>
-    ensures read { IfOk result (λ bytes. Consumes (R.remaining input.old.reader) (R.remaining input.new.reader) bytes.items) }
+    ensures read { IfOk result (IsReadOff R.remaining input.old input.new) }
     ensures end { IfOk result (λ bytes. IsAtEnd (R.remaining input.new.reader)) }
     ensures short { IfOk result (λ bytes. length bytes.items ≤ max_file) }
-    ensures fault { IfErr result (LeavesFile (R.remaining input.old.reader) (R.remaining input.new.reader)) }
-    ensures calls { ReadsWhole (λ p e q. Inputs (R.remaining p.reader) e (R.remaining q.reader)) input.old input.new result }
+    ensures fault { IfErr result (LeavesInput R.remaining input.old input.new) }
+    ensures calls { ReadsWhole (InputGoes R.remaining) input.old input.new result }
 {
     inputs_tell_their_bytes::<R>();
     read_channel(alloc, input, expected)
@@ -110,8 +109,7 @@ pub fn read_whole<R: Read>(
 
 /// A law: of a channel that is the log of its calls, what `read_channel` says is said of that very log.
 pub fn reading_is_of_the_log()
-    ensures { (calls : List IoEvent) (result : Result (Vec ℕ Global) FileFault) → ReadsWhole keeps_log [] calls result
-        → AreReads calls × AreDue calls × HasReason calls result }
+    ensures { ReadingIsOfTheLog }
 {
     calls_are_the_log();
 }

@@ -1,15 +1,15 @@
 //! What a program prints of a transcript that it checks.
 
-ghost use Rattle.std.specs.Prelude.{◌≡◌, ◌≢◌, ◌⊎◌, ◌&&◌, ◌++◌, [], List, ℕ, if◌then◌else◌, nat_le, flat_map, OnOk, IfOk, IfErr, IsErrAnd, MatchResult, string_bytes};
+ghost use Rattle.std.specs.Prelude.{◌≡◌, ◌&&◌, ◌++◌, [], List, ℕ, if◌then◌else◌, nat_le, flat_map, OnOk, IfOk, IfErr, string_bytes};
 ghost use Rattle.std.specs.Str.Lines.{lines};
 ghost use Rattle.dap_check.specs.Findings.{open_requests};
-ghost use Rattle.dap_check.specs.Transcript.{AreLines, FirstRefused};
+ghost use Rattle.dap_check.specs.Transcript.{GivesFirstRefused, IsRefusal};
 ghost use Rattle.dap_check.specs.declared.checking.CheckFault.{CheckFault};
 ghost use Rattle.dap_check.specs.declared.line.Line.{Line};
 ghost use Rattle.dap_explain.specs.Explained.{HasNoted};
 ghost use Rattle.dap_tool.specs.Hints.{hint_text};
 ghost use Rattle.dap_tool.specs.PrivateListed.{mode_of, IsListed};
-ghost use Rattle.dap_tool.specs.Verdicts.{text_of_checked, count_text, closing_text, text_of_request, text_of_open, open_text, IsVerdictText};
+ghost use Rattle.dap_tool.specs.Verdicts.{text_of_checked, count_text, closing_text, text_of_request, text_of_open, open_text, IsVerdictText, IsVerdictTextOn, GivesVerdictText};
 
 use crate::commands::command_words;
 use crate::finding::rule_text;
@@ -185,12 +185,12 @@ pub fn check_text(
     bytes: &[u8],
     options: CheckOptions,
 ) -> Result<VerdictText, CheckFault>
-    ensures checked { IfOk result (λ printed. (transcript : List Line) × AreLines 1 (lines bytes.now) transcript × IsVerdictText options transcript printed) }
-    ensures refused { IfErr result (λ fault. (fault ≡ CheckFault.OutOfMemory) ⊎ FirstRefused (lines bytes.now) fault) }
+    ensures checked { IfOk result (IsVerdictTextOn options bytes.now) }
+    ensures refused { IfErr result (IsRefusal (lines bytes.now)) }
 
     // And the other way, unless memory runs out.
-    ensures checks { (transcript : List Line) → AreLines 1 (lines bytes.now) transcript → MatchResult result (IsVerdictText options transcript) (λ fault. fault ≡ CheckFault.OutOfMemory) }
-    ensures refuses { (fault : CheckFault) → FirstRefused (lines bytes.now) fault → fault ≢ CheckFault.OutOfMemory → IsErrAnd result (λ told. (told ≡ fault) ⊎ (told ≡ CheckFault.OutOfMemory)) }
+    ensures checks { GivesVerdictText options bytes.now result }
+    ensures refuses { GivesFirstRefused (lines bytes.now) result }
 {
     // A law for the proof: a text is one transcript, or is refused.
     texts_are_read_in_one_way();
