@@ -165,13 +165,13 @@ category_of (suc (suc n)) = Stderr
 
 -- these bytes, read as JSON, are this moment over the sources
 pub record IsMoment (sources : List RecordedSource) (json : Option Data) (moment : MomentAlone) : Type 0 where
-  pub data : Data
-  pub is_json : json ≡ Some data
-  pub read : read_moment sources data ≡ Ok moment
+  pub tree : Data
+  pub is_json : json ≡ Some tree
+  pub read : read_moment sources tree ≡ Ok moment
 
 -- JSON data, or bytes that are read as JSON, are no moment over the sources
 abbrev pub IsNoMomentIn : List RecordedSource → Data → Type 0
-IsNoMomentIn sources data = (moment : MomentAlone) → read_moment sources data ≡ Ok moment → ⊥
+IsNoMomentIn sources tree = (moment : MomentAlone) → read_moment sources tree ≡ Ok moment → ⊥
 
 abbrev pub IsNoMoment : List RecordedSource → Option Data → Type 0
 IsNoMoment sources json = (moment : MomentAlone) → IsMoment sources json moment → ⊥
