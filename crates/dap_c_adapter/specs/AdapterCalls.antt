@@ -1,6 +1,6 @@
 -- What the exports of an adapter do, in the words of dap_adapter, over the adapter behind the handle and a debuggee that the
 -- host feeds.
-use Rattle.std.specs.Prelude.{◌≡◌, ◌⊎◌, ℕ, zero, suc, ℤ, List, [], ◌++◌, length, take, Bool, false, Option, Some, None, Result, Ok, Err, is_some, if◌then◌else◌}
+use Rattle.std.specs.Prelude.{◌≡◌, ◌⊎◌, ℕ, zero, suc, ℤ, List, [], ◌++◌, length, take, Bool, false, Option, Some, None, Result, Ok, Err, is_some, option_and_then, if◌then◌else◌}
 use Rattle.dap_json.specs.declared.more.Member.{Member}
 use Rattle.dap_debuggee.specs.declared.answers.Category.{Category}
 use Rattle.dap_debuggee.specs.declared.answers.Category.TheVariants.{Console, Stdout, Stderr}
@@ -163,23 +163,18 @@ category_of zero = Console
 category_of (suc zero) = Stdout
 category_of (suc (suc n)) = Stderr
 
--- these bytes, read as JSON, are this moment over the sources
-pub record IsMoment (sources : List RecordedSource) (json : Option Data) (moment : MomentAlone) : Type 0 where
-  pub tree : Data
-  pub is_json : json ≡ Some tree
-  pub read : read_moment sources tree ≡ Ok moment
+abbrev pub if_read : {A B : Type 0} → Result A B → Option A
+if_read (Ok x) = Some x
+if_read (Err e) = None
 
--- JSON data, or bytes that are read as JSON, are no moment over the sources
-abbrev pub IsNoMomentIn : List RecordedSource → Data → Type 0
-IsNoMomentIn sources tree = (moment : MomentAlone) → read_moment sources tree ≡ Ok moment → ⊥
-
-abbrev pub IsNoMoment : List RecordedSource → Option Data → Type 0
-IsNoMoment sources json = (moment : MomentAlone) → IsMoment sources json moment → ⊥
+-- the moment over the sources that these bytes are, read as JSON, if they are one
+abbrev pub moment_over : List RecordedSource → Option Data → Option MomentAlone
+moment_over sources json = option_and_then (λ tree. if_read (read_moment sources tree)) json
 
 -- a stop at a moment over the sources
 pub record IsStop (sources : List RecordedSource) (reason : List ℕ) (thread : ℤ) (shows : Option Data) (later : Bool) (told : Coming) : Type 0 where
   pub moment : MomentAlone
-  pub shown : IsMoment sources shows moment
+  pub shown : moment_over sources shows ≡ Some moment
   pub is : told ≡ said.Stopped reason thread moment later
 
 -- the sources of a file

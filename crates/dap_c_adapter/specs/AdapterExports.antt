@@ -18,7 +18,7 @@ use Rattle.dap_c_parts.specs.declared.found.YtFound.{YtFound}
 use Rattle.dap_c_parts.specs.declared.limits.YtLimits.{YtLimits}
 use Rattle.dap_c_adapter.specs.Acts.{IsActFound}
 use Rattle.dap_c_adapter.specs.AdapterBehind.{FromTo}
-use Rattle.dap_c_adapter.specs.AdapterCalls.{IsOpenedOver, AdapterTakes, RefusesAdapterPiece, IsAdapterAsBefore, AdapterTurns, RefusesTurn, Tells, IsStop, IsNoMoment, AreSources, IsCodeOfText, category_of, variable_told, variable_with, acts_due}
+use Rattle.dap_c_adapter.specs.AdapterCalls.{IsOpenedOver, AdapterTakes, RefusesAdapterPiece, IsAdapterAsBefore, AdapterTurns, RefusesTurn, Tells, IsStop, moment_over, AreSources, IsCodeOfText, category_of, variable_told, variable_with, acts_due}
 use Rattle.dap_c_adapter.specs.Beside.{CanBeSaid, said_by}
 use Rattle.dap_c_adapter.specs.AdapterFaults.{adapter_number, IsAdapterFaultFound}
 use Rattle.dap_c_adapter.specs.AdapterSeen.{IsAdapterState, IsTarget}
@@ -136,7 +136,7 @@ TellsStop reason thread shows later code found old new = TellsWhere (IsStop old.
 
 -- with the code 107 what is to be shown is no moment over the debuggee's sources
 abbrev pub ShowsNoMoment : List ℕ → ℕ → HeldAdapter → HeldAdapter → Type 0
-ShowsNoMoment shows code old new = code ≡ 107 → IsNoMoment old.adapter.debuggee.sources (json_of shows)
+ShowsNoMoment shows code old new = code ≡ 107 → moment_over old.adapter.debuggee.sources (json_of shows) ≡ None
 
 abbrev pub TellsLearned : List ℕ → List ℕ → Bool → Bool → ℕ → ℕ → YtFound → HeldAdapter → HeldAdapter → Type 0
 TellsLearned asked value known has_parts holder code found old new =

@@ -5,10 +5,10 @@
 //! the handle and what the caller lends for an answer are touched.
 ghost use Rattle.std.specs.Prelude.{◌≡◌, ◌⊎◌, ◌≤◌, ◌<◌, ◌++◌, ◌∷◌, IfOk, IfErr, IfSome, IsSome, IsOk, IsUtf8, Some, None, Ok, Err, false, [], length, if◌then◌else◌, ◌≢◌};
 ghost use Rattle.dap_json.specs.Read.{json_of};
-ghost use Rattle.dap_recording.specs.Reading.{file_sources, read_moment};
+ghost use Rattle.dap_recording.specs.Reading.{file_sources};
 ghost use Rattle.dap_plan.specs.Polling.{has_debuggee};
 ghost use Rattle.dap_plan.specs.declared.fault.AdapterFault.{AdapterFault as TheFault};
-ghost use Rattle.dap_c_adapter.specs.AdapterCalls.{AdapterSaw, RefusesPoll, Tells, IsMoment, IsNoMoment, IsNoMomentIn, IsStop, AreSources, IsCodeOfText, IsCodeOfRecording, IsToldCode, HasNoSources, KeepsActs, category_of, mail_number, variable_told};
+ghost use Rattle.dap_c_adapter.specs.AdapterCalls.{AdapterSaw, RefusesPoll, Tells, moment_over, IsStop, AreSources, IsCodeOfText, IsCodeOfRecording, IsToldCode, HasNoSources, KeepsActs, category_of, mail_number, variable_told};
 ghost use Rattle.dap_c_adapter.specs.AdapterFaults.{adapter_number, IsAdapterFaultFound};
 ghost use Rattle.dap_live.specs.declared.mail.Coming.TheVariants as said;
 ghost use Rattle.dap_c_adapter.specs.AdapterBehind.{IsFull, IsEmpty, FromTo, FromEmpty};
@@ -151,8 +151,8 @@ fn text_given(alloc: Global, bytes: &[u8]) -> Result<Text, u32>
 
 /// The moment that JSON is, over sources.
 fn moment_in(texts: &mut Texts, sources: &Sources, moment: &Tree) -> Result<Snapshot, u32>
-    ensures read { IfOk result (λ shows. read_moment sources.now moment.now ≡ Ok shows) }
-    ensures no_moment { IfErr result (λ code. code ≡ YT_BAD_RECORDING → IsNoMomentIn sources.now moment.now) }
+    ensures read { IfOk result (λ shows. moment_over sources.now (Some moment.now) ≡ Some shows) }
+    ensures no_moment { IfErr result (λ code. code ≡ YT_BAD_RECORDING → moment_over sources.now (Some moment.now) ≡ None) }
     ensures code { IfErr result IsCodeOfRecording }
 {
     match Snapshot::read(texts, sources, moment) {
@@ -164,8 +164,8 @@ fn moment_in(texts: &mut Texts, sources: &Sources, moment: &Tree) -> Result<Snap
 
 /// The same of bytes.
 fn moment_given(alloc: Global, sources: &Sources, bytes: &[u8]) -> Result<Snapshot, u32>
-    ensures read { IfOk result (IsMoment sources.now (json_of bytes.now)) }
-    ensures no_moment { IfErr result (λ code. code ≡ YT_BAD_RECORDING → IsNoMoment sources.now (json_of bytes.now)) }
+    ensures read { IfOk result (λ shows. moment_over sources.now (json_of bytes.now) ≡ Some shows) }
+    ensures no_moment { IfErr result (λ code. code ≡ YT_BAD_RECORDING → moment_over sources.now (json_of bytes.now) ≡ None) }
     ensures code { IfErr result IsCodeOfRecording }
 {
     let moment = match dap_json::parse(alloc, bytes) {
@@ -229,7 +229,7 @@ fn stop_given(
 ) -> Result<Coming, u32>
     ensures said { IfOk result (IsStop sources.now reason.now thread (json_of shows.now) later) }
     ensures wanted { IsUtf8 reason.now → IfErr result (λ code. code ≡ YT_BAD_ARGUMENTS → ⊥) }
-    ensures no_moment { IfErr result (λ code. code ≡ YT_BAD_RECORDING → IsNoMoment sources.now (json_of shows.now)) }
+    ensures no_moment { IfErr result (λ code. code ≡ YT_BAD_RECORDING → moment_over sources.now (json_of shows.now) ≡ None) }
     ensures code { IfErr result IsCodeOfText }
 {
     let reason = text_given(alloc, reason)?;
@@ -278,7 +278,7 @@ fn tell_stop(
     found: &mut YtFound,
 ) -> u32
     ensures tells { TellsStop reason.now thread shows.now later result found.new held.old held.new }
-    ensures latched { LatchesUnlessText result held.old held.new }
+    ensures latched { IfSome held.old.adapter.fault (λ fault. ((result ≡ adapter_number fault) ⊎ IsCodeOfText result) × (held.new.adapter ≡ held.old.adapter)) }
     ensures apart { StaysOpenApart held.old held.new }
     ensures length { LeavesBytes found.new.bytes held.old held.new }
     ensures wanted { IsUtf8 reason.now → result ≢ YT_BAD_ARGUMENTS }
