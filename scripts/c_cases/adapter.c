@@ -100,13 +100,13 @@ static int stops(void) {
     CHECK(yt_adapter_target(&adapter, 9, &target) == YT_NOTHING && yt_adapter_target(&adapter, 0, &target) == YT_NOTHING);
     if (!hear("{\"seq\":6,\"type\":\"request\",\"command\":\"scopes\",\"arguments\":{\"frameId\":1}}")) return 0;
     CHECK(has("\"name\":\"Locals\"") && has("\"name\":\"Globals\""));
-    if (!hear("{\"seq\":7,\"type\":\"request\",\"command\":\"variables\",\"arguments\":{\"variablesReference\":3}}")) return 0;
+    if (!hear("{\"seq\":7,\"type\":\"request\",\"command\":\"variables\",\"arguments\":{\"variablesReference\":4}}")) return 0;
     CHECK(has("\"success\":false")); /* not told yet */
-    CHECK(yt_adapter_target(&adapter, 3, &target) == YT_OK && target.kind == 2);
+    CHECK(yt_adapter_target(&adapter, 4, &target) == YT_OK && target.kind == 2);
     if (!goes_on(yt_adapter_variable_with(&adapter, BYTES("g"), BYTES("1"), false, 0, BYTES("{\"type\":\"int\"}")))) return 0;
     code = yt_adapter_variables(&adapter, target.object, &found);
     if (!told(code)) return 0;
-    if (!hear("{\"seq\":8,\"type\":\"request\",\"command\":\"variables\",\"arguments\":{\"variablesReference\":3}}")) return 0;
+    if (!hear("{\"seq\":8,\"type\":\"request\",\"command\":\"variables\",\"arguments\":{\"variablesReference\":4}}")) return 0;
     CHECK(has("\"name\":\"g\"") && has("\"value\":\"1\"") && has("\"type\":\"int\""));
     code = yt_adapter_variables(&adapter, target.object, &found);
     if (!goes_on(code)) return 0;
@@ -121,7 +121,7 @@ static int goes(void) {
     if (!hear("{\"seq\":9,\"type\":\"request\",\"command\":\"evaluate\",\"arguments\":{\"expression\":\"x + 1\"}}")) return 0;
     CHECK(has("\"result\":\"42\""));
     if (!told(yt_adapter_learned_with(&adapter, BYTES("44"), true, BYTES("44"), false, 0, BYTES("{\"type\":\"long\"}"), &found))) return 0;
-    if (!hear("{\"seq\":10,\"type\":\"request\",\"command\":\"setVariable\",\"arguments\":{\"variablesReference\":2,\"name\":\"x\",\"value\":\"44\"}}")) return 0;
+    if (!hear("{\"seq\":10,\"type\":\"request\",\"command\":\"setVariable\",\"arguments\":{\"variablesReference\":3,\"name\":\"x\",\"value\":\"44\"}}")) return 0;
     CHECK(has("\"value\":\"44\"") && has("\"type\":\"long\""));
     CHECK(yt_adapter_act(&adapter, &act) == YT_OK && act.kind == 5 && act.name == 1 && act.value == 2);
     CHECK(yt_adapter_name(&adapter, out, 8) == YT_OK && out[0] == 'x' && yt_adapter_value(&adapter, out, 8) == YT_OK && !memcmp(out, "44", 2));
