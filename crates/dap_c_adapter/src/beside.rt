@@ -21,6 +21,7 @@ fn said_given(alloc: Global, bytes: &[u8]) -> Result<Option<More>, u32>
     ensures said { IfOk result (λ said. said ≡ said_by bytes.now) }
     ensures can { IfOk result (λ said. CanBeSaid bytes.now) }
     ensures wanted { CanBeSaid bytes.now → IfErr result (λ code. code ≡ YT_NO_MEMORY) }
+    ensures no_recording { IfErr result (λ code. code ≡ YT_BAD_RECORDING → ⊥) }
     ensures code { IfErr result IsCodeOfText }
 {
     if bytes.is_empty() {
@@ -49,6 +50,7 @@ fn value_with(
     ensures said { IfOk result (λ told. told ≡ said.Learned asked.now (if known then Some value.now else None) holder (said_by more.now)) }
     ensures can { IfOk result (λ told. CanBeSaid more.now) }
     ensures wanted { CanBeTold asked.now value.now more.now → IfErr result (λ code. code ≡ YT_NO_MEMORY) }
+    ensures no_recording { IfErr result (λ code. code ≡ YT_BAD_RECORDING → ⊥) }
     ensures code { IfErr result IsCodeOfText }
 {
     let said = said_given(alloc, more)?;
@@ -65,6 +67,7 @@ fn variable_with(
     ensures variable { IfOk result (λ variable. variable ≡ record { name = name.now; value = value.now; holder = holder; more = unwrap_or (said_by more.now) [] }) }
     ensures can { IfOk result (λ variable. CanBeSaid more.now) }
     ensures wanted { CanBeTold name.now value.now more.now → IfErr result (λ code. code ≡ YT_NO_MEMORY) }
+    ensures no_recording { IfErr result (λ code. code ≡ YT_BAD_RECORDING → ⊥) }
     ensures code { IfErr result IsCodeOfText }
 {
     let said = said_given(alloc, more)?;
@@ -94,6 +97,7 @@ pub extern "C" fn yt_adapter_learned_with(
     ensures apart { FromTo adapter.old adapter.new StaysOpenApart }
     ensures length { FromTo adapter.old adapter.new (LeavesBytes found.new.bytes) }
     ensures wanted { CanBeTold asked.now value.now more.now → AcceptsText result }
+    ensures no_recording { result ≢ YT_BAD_RECORDING }
     ensures limits { FromTo adapter.old adapter.new KeepsLimits }
     ensures frame { FromTo adapter.old adapter.new KeepsFrame }
     ensures acts { FromTo adapter.old adapter.new KeepsActs }
@@ -123,6 +127,7 @@ pub extern "C" fn yt_adapter_variable_with(
     ensures gathers { GathersWith adapter.old adapter.new name.now value.now has_parts holder more.now result }
     ensures refused { FromTo adapter.old adapter.new (λ a b. result ≢ YT_OK → KeepsGathered a b) }
     ensures wanted { CanBeTold name.now value.now more.now → result ≢ YT_BAD_ARGUMENTS }
+    ensures no_recording { result ≢ YT_BAD_RECORDING }
 {
     let Some(mut held) = take_out(alloc, adapter) else {
         return YT_NONE;

@@ -207,6 +207,7 @@ fn output_given(alloc: Global, category: u32, output: &[u8]) -> Result<Coming, u
     ensures said { IfOk result (λ told. told ≡ said.Output (category_of category) output.now) }
     ensures wanted { category ≤ 2 → IsUtf8 output.now → IfErr result (λ code. code ≡ YT_NO_MEMORY) }
     ensures unknown { 2 < category → result ≡ Err YT_BAD_ARGUMENTS }
+    ensures no_recording { IfErr result (λ code. code ≡ YT_BAD_RECORDING → ⊥) }
     ensures code { IfErr result IsCodeOfText }
 {
     let category = match category {
@@ -259,6 +260,7 @@ pub extern "C" fn yt_adapter_output(
     ensures length { FromTo adapter.old adapter.new (LeavesBytes found.new.bytes) }
     ensures wanted { category ≤ 2 → IsUtf8 output.now → AcceptsText result }
     ensures unknown { FromTo adapter.old adapter.new (RefusesUnknown category result) }
+    ensures no_recording { result ≢ YT_BAD_RECORDING }
     ensures limits { FromTo adapter.old adapter.new KeepsLimits }
     ensures frame { FromTo adapter.old adapter.new KeepsFrame }
     ensures acts { FromTo adapter.old adapter.new KeepsActs }
@@ -390,6 +392,7 @@ pub(crate) fn value_given(
 ) -> Result<Coming, u32>
     ensures said { IfOk result (λ told. told ≡ said.Learned asked.now (if known then Some value.now else None) holder more) }
     ensures wanted { IsUtf8 asked.now → IsUtf8 value.now → IfErr result (λ code. code ≡ YT_NO_MEMORY) }
+    ensures no_recording { IfErr result (λ code. code ≡ YT_BAD_RECORDING → ⊥) }
     ensures code { IfErr result IsCodeOfText }
 {
     let text = text_given(alloc, asked)?;
@@ -411,6 +414,7 @@ pub(crate) fn variable_given(
 ) -> Result<Variable, u32>
     ensures variable { IfOk result (λ variable. variable ≡ record { name = name.now; value = value.now; holder = holder; more = more }) }
     ensures wanted { IsUtf8 name.now → IsUtf8 value.now → IfErr result (λ code. code ≡ YT_NO_MEMORY) }
+    ensures no_recording { IfErr result (λ code. code ≡ YT_BAD_RECORDING → ⊥) }
     ensures code { IfErr result IsCodeOfText }
 {
     let name = text_given(alloc, name)?;
@@ -444,6 +448,7 @@ pub extern "C" fn yt_adapter_learned(
     ensures apart { FromTo adapter.old adapter.new StaysOpenApart }
     ensures length { FromTo adapter.old adapter.new (LeavesBytes found.new.bytes) }
     ensures wanted { IsUtf8 asked.now → IsUtf8 value.now → AcceptsText result }
+    ensures no_recording { result ≢ YT_BAD_RECORDING }
     ensures limits { FromTo adapter.old adapter.new KeepsLimits }
     ensures frame { FromTo adapter.old adapter.new KeepsFrame }
     ensures acts { FromTo adapter.old adapter.new KeepsActs }
@@ -493,6 +498,7 @@ pub extern "C" fn yt_adapter_variable(
     ensures gathers { Gathers adapter.old adapter.new name.now value.now has_parts holder result }
     ensures refused { FromTo adapter.old adapter.new (λ a b. result ≢ YT_OK → KeepsGathered a b) }
     ensures wanted { IsUtf8 name.now → IsUtf8 value.now → result ≢ YT_BAD_ARGUMENTS }
+    ensures no_recording { result ≢ YT_BAD_RECORDING }
 {
     let Some(mut held) = take_out(alloc, adapter) else {
         return YT_NONE;

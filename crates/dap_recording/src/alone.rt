@@ -12,7 +12,8 @@ impl Sources {
     /// The sources that JSON is: what stands in an object at `sources`.
     ///
     /// # Errors
-    /// `BadKey` with the first bad key. `OutOfMemory` where memory for a text, a list or a table is refused.
+    /// `BadKey` with the first bad key. `OutOfMemory` where memory for a text, a list, a table or the place of the key
+    /// is refused.
     pub fn read(texts: &mut Texts, sources: &Tree) -> Result<Sources, RecordingFault>
         ensures { Gives result (sources_of sources.now) }
     {

@@ -15,7 +15,7 @@ use std::alloc::Global;
 impl Recording {
     /// The recording that bytes are. Where `sources` comes before `moments`, and each once, no tree of the whole is made.
     ///
-    /// `OutOfMemory` comes where memory for the JSON value, a text, a list or a table is refused.
+    /// `OutOfMemory` comes where memory for the JSON value, a text, a list, a table or the place of a bad key is refused.
     pub fn read(alloc: Global, bytes: &[u8]) -> Result<Recording, RecordingFault>
         ensures verdict { IsVerdict result (verdict_of (json_of bytes.now)) }
         ensures holds { IfOk result (λ recording. IsRecording recording) }
@@ -42,7 +42,7 @@ impl Sources {
     ///
     /// # Errors
     /// `NotJson` and `NotObject` as of [`Recording::read`], `BadKey` with the first bad key. `OutOfMemory` where memory for the JSON
-    /// value, a text, a list or a table is refused.
+    /// value, a text, a list, a table or the place of a bad key is refused.
     pub fn of_file(texts: &mut Texts, bytes: &[u8]) -> Result<Sources, RecordingFault>
         ensures { IsVerdict result (file_sources (json_of bytes.now)) }
     {
