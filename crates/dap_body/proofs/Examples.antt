@@ -122,18 +122,18 @@ a_source's_text = refl
 
 -- ---- events
 
-an_output : compact_text (output_body (codes "stdout") (codes "go\n")) ≡ codes "{\"category\":\"stdout\",\"output\":\"go\\n\"}"
+an_output : compact_text (output_body (codes "stdout") (codes "go\n") []) ≡ codes "{\"category\":\"stdout\",\"output\":\"go\\n\"}"
 unfolding escape_byte
 an_output = refl
 
-output_as_data : output_body (codes "console") [] ≡ object (member (codes "category") (string (codes "console")) (member (codes "output") (string []) no_members))
+output_as_data : output_body (codes "console") [] [] ≡ object (member (codes "category") (string (codes "console")) (member (codes "output") (string []) no_members))
 output_as_data = refl
 
-a_stop : compact_text (stopped_body (codes "pause") (pos 1)) ≡ codes "{\"allThreadsStopped\":true,\"reason\":\"pause\",\"threadId\":1}"
+a_stop : compact_text (stopped_body (codes "pause") (pos 1) []) ≡ codes "{\"allThreadsStopped\":true,\"reason\":\"pause\",\"threadId\":1}"
 unfolding escape_byte digits
 a_stop = refl
 
-stop_as_data : stopped_body (codes "step") (pos 2) ≡ object (member (codes "allThreadsStopped") (boolean true) (member (codes "reason") (string (codes "step")) (member (codes "threadId") (whole_number 2) no_members)))
+stop_as_data : stopped_body (codes "step") (pos 2) [] ≡ object (member (codes "allThreadsStopped") (boolean true) (member (codes "reason") (string (codes "step")) (member (codes "threadId") (whole_number 2) no_members)))
 stop_as_data = refl
 
 a_thread_goes_on : compact_text (continued_body (negsuc 0)) ≡ codes "{\"allThreadsContinued\":true,\"threadId\":-1}"
@@ -150,11 +150,11 @@ least_exit_code = refl
 exit_as_data : exited_body (pos 0) ≡ object (member (codes "exitCode") (whole_number 0) no_members)
 exit_as_data = refl
 
-a_quote_is_escaped : compact_text (output_body (codes "console") (codes "say \"a\"")) ≡ codes "{\"category\":\"console\",\"output\":\"say \\\"a\\\"\"}"
+a_quote_is_escaped : compact_text (output_body (codes "console") (codes "say \"a\"") []) ≡ codes "{\"category\":\"console\",\"output\":\"say \\\"a\\\"\"}"
 unfolding escape_byte
 a_quote_is_escaped = refl
 
-a_stop_below_0 : compact_text (stopped_body (codes "entry") (negsuc 9007199254740990)) ≡ codes "{\"allThreadsStopped\":true,\"reason\":\"entry\",\"threadId\":-9007199254740991}"
+a_stop_below_0 : compact_text (stopped_body (codes "entry") (negsuc 9007199254740990) []) ≡ codes "{\"allThreadsStopped\":true,\"reason\":\"entry\",\"threadId\":-9007199254740991}"
 unfolding escape_byte digits
 a_stop_below_0 = refl
 

@@ -49,8 +49,12 @@ own_fields_are_in_order = record {
   variable = λ v. refl;
   evaluate = λ result reference. refl;
   set_variable = λ value. refl;
+  output = λ category text. refl;
+  stopped = λ reason thread. refl;
   evaluate_alone = λ result reference. refl;
   set_variable_alone = λ value. refl;
+  output_alone = λ category text. refl;
+  stopped_alone = λ reason thread. refl;
 }
 
 -- ---- text

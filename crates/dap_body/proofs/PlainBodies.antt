@@ -30,7 +30,7 @@ use Rattle.dap_body.specs.declared.event.EventBody.{EventBody}
 use Rattle.dap_body.specs.declared.event.EventBody.TheVariants.{Output, Stopped, Continued, Exited}
 use Rattle.dap_body.specs.declared.body.Body.{Body}
 use Rattle.dap_body.specs.declared.body.Body.TheVariants.{Initialize, SetBreakpoints, Threads, Continue, StackTrace, Scopes, Variables, SetVariable, Evaluate, Source as SourceText, LoadedSources, RunInTerminal}
-use Rattle.dap_body.specs.EventBody.{stopped_row, continued_row, exited_row}
+use Rattle.dap_body.specs.EventBody.{output_fields, output_row, stopped_fields, stopped_row, continued_row, exited_row}
 use Rattle.dap_body.specs.ResponseBody.{breakpoint, thread_fields, thread, source_fields, source, stack_frame_fields, stack_frame, scope_fields, scope, variable_fields, variable, evaluate_fields, evaluate_row, set_variable_fields, set_variable_row, set_breakpoints_row, threads_row, stack_trace_row, scopes_row, variables_row, loaded_sources_row, run_in_terminal_row}
 use Rattle.dap_body.specs.Row.{Field, Row, Value, text, whole, integer, flag, tree, text_if_any, whole_if_any, tree_if_any, value_data, with_member, members_of, object_of, list_of}
 use Rattle.dap_body.specs.PlainBodies.{IsPlain, ResponseBodiesArePlain, FailureBodiesArePlain, EventBodiesArePlain}
@@ -234,8 +234,8 @@ failure_bodies_are_plain failure = refl
 
 pub event_bodies_are_plain : EventBodiesArePlain
 event_bodies_are_plain = record {
-  output = λ category text. refl;
-  stopped = λ reason thread. row_plain (stopped_row reason thread) tt;
+  output = λ category text more. row_plain (output_row category text more) (beside_plain 119 (output_fields category text) more (omega arith) tt);
+  stopped = λ reason thread more. row_plain (stopped_row reason thread more) (beside_plain 119 (stopped_fields reason thread) more (omega arith) tt);
   continued = λ thread. row_plain (continued_row thread) tt;
   exited = λ code. row_plain (exited_row code) tt;
 }
@@ -255,8 +255,8 @@ body_is_plain (LoadedSources sources) = response_bodies_are_plain.loaded_sources
 body_is_plain (RunInTerminal process shell) = response_bodies_are_plain.run_in_terminal process shell
 
 pub event_is_plain : (body : EventBody) → IsPlain (event_data body)
-event_is_plain (Output category output) = event_bodies_are_plain.output category.now output.now
-event_is_plain (Stopped reason thread) = event_bodies_are_plain.stopped reason.now thread
+event_is_plain (Output category output more) = event_bodies_are_plain.output category.now output.now more.now
+event_is_plain (Stopped reason thread more) = event_bodies_are_plain.stopped reason.now thread more.now
 event_is_plain (Continued thread) = event_bodies_are_plain.continued thread
 event_is_plain (Exited code) = event_bodies_are_plain.exited code
 

@@ -1,11 +1,12 @@
 -- What stands beside a row's own fields, and that these are as they were.
-use Rattle.std.specs.Prelude.{◌≡◌, codes, ℕ, List, [], ◌∷◌, Bool, true, false, ◌||◌}
+use Rattle.std.specs.Prelude.{◌≡◌, codes, ℕ, ℤ, List, [], ◌∷◌, Bool, true, false, ◌||◌}
 use Rattle.std.specs.Ordering.{nat_cmp, match_ordering}
 use Rattle.std.specs.Cmp.Lexicographic.{slice_cmp}
 use Rattle.serde_json.specs.Find.{get}
 use Rattle.dap_json.specs.More.{object_with, are_more}
 use Rattle.dap_json.specs.declared.more.Member.{Member}
 use Rattle.dap_body.specs.Beside.{beside, fit_members}
+use Rattle.dap_body.specs.EventBody.{output_body, output_fields, stopped_body, stopped_fields}
 use Rattle.dap_body.specs.Row.{Row, is_in_order, object_of, text, whole}
 use Rattle.dap_body.specs.ResponseBody.{thread_fields, source_fields, stack_frame_fields, scope_fields, variable_fields, evaluate_fields, evaluate_body, set_variable_fields, set_variable_body}
 use Rattle.dap_body.specs.declared.response.Scope.{Scope}
@@ -41,5 +42,9 @@ pub record OwnFieldsAreInOrder : Type 0 where
   pub variable : (v : Variable) → is_in_order (variable_fields v) ≡ true
   pub evaluate : (result : List ℕ) (reference : ℕ) → is_in_order (evaluate_fields result reference) ≡ true
   pub set_variable : (value : List ℕ) → is_in_order (set_variable_fields value) ≡ true
+  pub output : (category output : List ℕ) → is_in_order (output_fields category output) ≡ true
+  pub stopped : (reason : List ℕ) (thread : ℤ) → is_in_order (stopped_fields reason thread) ≡ true
   pub evaluate_alone : (result : List ℕ) (reference : ℕ) → evaluate_body result reference [] ≡ object_of ((codes "result", text result) ∷ (codes "variablesReference", whole reference) ∷ [])
   pub set_variable_alone : (value : List ℕ) → set_variable_body value [] ≡ object_of ((codes "value", text value) ∷ [])
+  pub output_alone : (category output : List ℕ) → output_body category output [] ≡ object_of ((codes "category", text category) ∷ (codes "output", text output) ∷ [])
+  pub stopped_alone : (reason : List ℕ) (thread : ℤ) → stopped_body reason thread [] ≡ object_of (stopped_fields reason thread)

@@ -35,8 +35,8 @@ data_in = option_map data_of
 
 -- the same of the bodies of events
 abbrev pub event_row : EventBody → Row
-event_row (Output category output) = output_row category.now output.now
-event_row (Stopped reason thread_id) = stopped_row reason.now thread_id
+event_row (Output category output more) = output_row category.now output.now more.now
+event_row (Stopped reason thread_id more) = stopped_row reason.now thread_id more.now
 event_row (Continued thread_id) = continued_row thread_id
 event_row (Exited exit_code) = exited_row exit_code
 

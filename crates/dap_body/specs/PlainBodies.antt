@@ -38,7 +38,7 @@ abbrev pub FailureBodiesArePlain : Type 0
 FailureBodiesArePlain = (failure : Failure) → IsPlain (failure_body failure)
 
 pub record EventBodiesArePlain : Type 0 where
-  pub output : (category output : List ℕ) → IsPlain (output_body category output)
-  pub stopped : (reason : List ℕ) (thread : ℤ) → IsPlain (stopped_body reason thread)
+  pub output : (category output : List ℕ) (more : List Member) → IsPlain (output_body category output more)
+  pub stopped : (reason : List ℕ) (thread : ℤ) (more : List Member) → IsPlain (stopped_body reason thread more)
   pub continued : (thread : ℤ) → IsPlain (continued_body thread)
   pub exited : (code : ℤ) → IsPlain (exited_body code)

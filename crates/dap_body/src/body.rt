@@ -1,23 +1,22 @@
 //! The bodies of responses as their parts, and their texts, written with no tree: Specification, the types
 //! whose names end in "Response", and "Types".
-ghost use Rattle.std.specs.Prelude.{◌≡◌, ◌++◌, None, IfOk, OnOk, OnErr, IsTrue};
+ghost use Rattle.std.specs.Prelude.{◌≡◌, ◌++◌, IfOk, OnOk, OnErr, IsTrue};
 ghost use Rattle.serde_json.specs.Written.{compact_text};
 ghost use Rattle.serde_json.specs.View.{view};
 ghost use Rattle.dap_json.specs.Sound.{IsSound};
 ghost use Rattle.dap_body.specs.Body.{data_of};
 ghost use Rattle.dap_command.specs.Capabilities.{capabilities_data};
-ghost use Rattle.dap_body.specs.PrivateText.{is_of_parts, wrote_row, IsSoundField, IsSoundRow, HasNoFloats, PutsNone};
-ghost use Rattle.dap_body.specs.Row.{whole_if_any};
+ghost use Rattle.dap_body.specs.PrivateText.{is_of_parts, wrote_row, IsSoundRow};
 ghost use Rattle.dap_body.specs.ResponseBody.{evaluate_row, set_variable_row};
 
-use crate::beside::{fit_members, put_before, put_left};
+use crate::beside::{fit_members, put_before, put_left, put_none};
 use crate::response::{Breakpoint, Scope, Source, StackFrame, Thread, Variable};
 use crate::row::{
     Fields, append_object, put_flag, put_list, put_number, put_short, put_short_if_any, put_text,
 };
 use dap_command::Capabilities;
 use dap_json::laws::{text_is_read_again, what_is_read_is_sound};
-use dap_json::{Member, More, ParseFault, Text, parse};
+use dap_json::{More, ParseFault, Text, parse};
 use json::Writer;
 use serde_json::Value;
 use std::alloc::{AllocError, Global};
@@ -72,19 +71,6 @@ pub enum Body {
         process_id: Option<u32>,
         shell_process_id: Option<u32>,
     },
-}
-
-/// Writes those that come before a key at which nothing is written, and gives those that come behind it.
-fn put_none<'m>(out: &mut Writer, key: &str, left: &'m [Member]) -> Result<&'m [Member], AllocError>
-    requires { HasNoFloats left.now }
-    ensures puts { IfOk result (λ later. PutsNone key.now left.now out.old.tokens later.now out.new.tokens) }
-    ensures sound { IsSoundField (key.now, whole_if_any None) }
-    ensures plain { IfOk result (λ later. HasNoFloats later.now) }
-    ensures before { out.new.before ≡ out.old.before }
-{
-    let left = put_before(out, key, left)?;
-    put_short_if_any(out, key, None)?;
-    Ok(left)
 }
 
 fn write_value_set(out: &mut Writer, value: &Text, more: &More) -> Result<(), AllocError>

@@ -1,17 +1,19 @@
 //! The bodies of an adapter's events as their parts, and their texts, written with no tree: Specification, "OutputEvent",
 //! "StoppedEvent", "ContinuedEvent" and "ExitedEvent".
 //!
-//! The events `initialized` and `terminated` have none.
+//! The events `initialized` and `terminated` have none. Beside the members of output and of a stop others can stand (`more`).
 ghost use Rattle.std.specs.Prelude.{◌≡◌, ◌++◌, IfOk, OnOk, OnErr};
 ghost use Rattle.serde_json.specs.View.{view};
 ghost use Rattle.serde_json.specs.Written.{compact_text};
 ghost use Rattle.dap_json.specs.Sound.{IsSound};
 ghost use Rattle.dap_body.specs.Body.{event_data};
-ghost use Rattle.dap_body.specs.EventBody.{output_body, stopped_body, continued_body, exited_body};
+ghost use Rattle.dap_body.specs.EventBody.{output_body, output_row, stopped_body, stopped_row, continued_body, exited_body};
+ghost use Rattle.dap_body.specs.PrivateText.{wrote_row, IsSoundRow};
 
+use crate::beside::{fit_members, put_before, put_left, put_none};
 use crate::row::{Fields, append_object, put_flag, put_signed, put_str, put_text};
 use dap_json::laws::text_is_read_again;
-use dap_json::{ParseFault, Text, parse};
+use dap_json::{More, ParseFault, Text, parse};
 use json::Writer;
 use serde_json::Value;
 use std::alloc::{AllocError, Global};
@@ -20,13 +22,58 @@ use std::alloc::{AllocError, Global};
 #[derive(Clone, Copy, Debug, Drop)]
 pub enum EventBody<'e> {
     /// Of `output`. The category is `console`, `stdout`, `stderr` or another that the client knows.
-    Output { category: &'e str, output: &'e Text },
+    Output {
+        category: &'e str,
+        output: &'e Text,
+        more: &'e More,
+    },
     /// Of `stopped`: one thread stopped for a reason, and all others with it.
-    Stopped { reason: &'e Text, thread_id: i64 },
+    Stopped {
+        reason: &'e Text,
+        thread_id: i64,
+        more: &'e More,
+    },
     /// Of `continued`: one thread goes on, and all others with it.
     Continued { thread_id: i64 },
     /// Of `exited`, with the debuggee's exit code.
     Exited { exit_code: i32 },
+}
+
+fn write_output(
+    out: &mut Writer,
+    category: &str,
+    output: &Text,
+    more: &More,
+) -> Result<(), AllocError>
+    ensures adds { OnOk result (out.new.tokens ≡ wrote_row (output_row category.now output.now more.now) out.old.tokens) }
+    ensures before { out.new.before ≡ out.old.before }
+    ensures sound { OnOk result (IsSoundRow (output_row category.now output.now more.now)) }
+{
+    let left = put_before(out, "category", fit_members(more))?;
+    put_str(out, "category", category)?;
+    let left = put_before(out, "output", left)?;
+    put_text(out, "output", output)?;
+    let left = put_none(out, "variablesReference", left)?;
+    put_left(out, left)
+}
+
+fn write_stop(
+    out: &mut Writer,
+    reason: &Text,
+    thread_id: i64,
+    more: &More,
+) -> Result<(), AllocError>
+    ensures adds { OnOk result (out.new.tokens ≡ wrote_row (stopped_row reason.now thread_id more.now) out.old.tokens) }
+    ensures before { out.new.before ≡ out.old.before }
+    ensures sound { OnOk result (IsSoundRow (stopped_row reason.now thread_id more.now)) }
+{
+    let left = put_before(out, "allThreadsStopped", fit_members(more))?;
+    put_flag(out, "allThreadsStopped", true)?;
+    let left = put_before(out, "reason", left)?;
+    put_text(out, "reason", reason)?;
+    let left = put_before(out, "threadId", left)?;
+    put_signed(out, "threadId", thread_id)?;
+    put_left(out, left)
 }
 
 impl<'e> Fields for EventBody<'e> {
@@ -36,15 +83,16 @@ impl<'e> Fields for EventBody<'e> {
 
     fn write(&self, out: &mut Writer) -> Result<(), AllocError> {
         match *self {
-            EventBody::Output { category, output } => {
-                put_str(out, "category", category)?;
-                put_text(out, "output", output)
-            }
-            EventBody::Stopped { reason, thread_id } => {
-                put_flag(out, "allThreadsStopped", true)?;
-                put_text(out, "reason", reason)?;
-                put_signed(out, "threadId", thread_id)
-            }
+            EventBody::Output {
+                category,
+                output,
+                more,
+            } => write_output(out, category, output, more),
+            EventBody::Stopped {
+                reason,
+                thread_id,
+                more,
+            } => write_stop(out, reason, thread_id, more),
             EventBody::Continued { thread_id } => {
                 put_flag(out, "allThreadsContinued", true)?;
                 put_signed(out, "threadId", thread_id)
@@ -83,8 +131,13 @@ fn value(alloc: Global, body: EventBody<'_>) -> Result<Value, AllocError>
 }
 
 /// The body of the event `output`. The category is `console`, `stdout`, `stderr` or another that the client knows.
-pub fn body_output(alloc: Global, category: Text, output: Text) -> Result<Value, AllocError>
-    ensures { IfOk result (λ v. view v ≡ output_body category output) }
+pub fn body_output(
+    alloc: Global,
+    category: Text,
+    output: Text,
+    more: More,
+) -> Result<Value, AllocError>
+    ensures { IfOk result (λ v. view v ≡ output_body category output more) }
 {
     let category = category.as_str();
     value(
@@ -92,19 +145,26 @@ pub fn body_output(alloc: Global, category: Text, output: Text) -> Result<Value,
         EventBody::Output {
             category,
             output: &output,
+            more: &more,
         },
     )
 }
 
 /// The body of the event `stopped`: one thread stopped for a reason, and all others with it.
-pub fn body_stopped(alloc: Global, reason: Text, thread_id: i64) -> Result<Value, AllocError>
-    ensures { IfOk result (λ v. view v ≡ stopped_body reason thread_id) }
+pub fn body_stopped(
+    alloc: Global,
+    reason: Text,
+    thread_id: i64,
+    more: More,
+) -> Result<Value, AllocError>
+    ensures { IfOk result (λ v. view v ≡ stopped_body reason thread_id more) }
 {
     value(
         alloc,
         EventBody::Stopped {
             reason: &reason,
             thread_id,
+            more: &more,
         },
     )
 }

@@ -175,7 +175,7 @@ moment_over sources json = option_and_then (λ tree. if_read (read_moment source
 pub record IsStop (sources : List RecordedSource) (reason : List ℕ) (thread : ℤ) (shows : Option Data) (later : Bool) (told : Coming) : Type 0 where
   pub moment : MomentAlone
   pub shown : moment_over sources shows ≡ Some moment
-  pub is : told ≡ said.Stopped reason thread moment later
+  pub is : told ≡ said.Stopped reason thread moment later []
 
 -- the sources of a file
 pub record AreSources (json : Option Data) (told : Coming) : Type 0 where

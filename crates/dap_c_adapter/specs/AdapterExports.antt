@@ -125,7 +125,7 @@ abbrev pub TellsWhere : (Coming → Type 0) → ℕ → YtFound → HeldAdapter 
 TellsWhere P code found old new = (given : Result Coming ℕ) × IfOk given (λ told. P told) × Tells given old new code found
 
 abbrev pub Outputs : ℕ → List ℕ → ℕ → YtFound → HeldAdapter → HeldAdapter → Type 0
-Outputs category output code found old new = TellsWhere (λ told. told ≡ said.Output (category_of category) output) code found old new
+Outputs category output code found old new = TellsWhere (λ told. told ≡ said.Output (category_of category) output []) code found old new
 
 -- there are three categories, from 0 on
 abbrev pub RefusesUnknown : ℕ → ℕ → HeldAdapter → HeldAdapter → Type 0

@@ -204,7 +204,7 @@ pub(crate) fn sources_given(alloc: Global, bytes: &[u8]) -> Result<Sources, u32>
 }
 
 fn output_given(alloc: Global, category: u32, output: &[u8]) -> Result<Coming, u32>
-    ensures said { IfOk result (λ told. told ≡ said.Output (category_of category) output.now) }
+    ensures said { IfOk result (λ told. told ≡ said.Output (category_of category) output.now []) }
     ensures wanted { category ≤ 2 → IsUtf8 output.now → IfErr result (λ code. code ≡ YT_NO_MEMORY) }
     ensures unknown { 2 < category → result ≡ Err YT_BAD_ARGUMENTS }
     ensures no_recording { IfErr result (λ code. code ≡ YT_BAD_RECORDING → ⊥) }
@@ -217,7 +217,11 @@ fn output_given(alloc: Global, category: u32, output: &[u8]) -> Result<Coming, u
         _ => return Err(YT_BAD_ARGUMENTS),
     };
     let text = text_given(alloc, output)?;
-    Ok(Coming::Output { category, text })
+    Ok(Coming::Output {
+        category,
+        text,
+        more: More::none(),
+    })
 }
 
 fn stop_given(
@@ -240,6 +244,7 @@ fn stop_given(
         thread,
         shows,
         later,
+        more: More::none(),
     })
 }
 

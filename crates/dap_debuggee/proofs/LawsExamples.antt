@@ -16,10 +16,10 @@ use Rattle.dap_debuggee.specs.declared.answers.Variable.{Variable}
 use Rattle.dap_debuggee.specs.declared.answers.Assigned.{Assigned}
 
 abbrev wrote : Reply
-wrote = happened (Output Stdout (codes "x"))
+wrote = happened (Output Stdout (codes "x") [])
 
 abbrev stopped : Reply
-stopped = happened (StoppedBy (codes "step") (pos 1))
+stopped = happened (StoppedBy (codes "step") (pos 1) [])
 
 abbrev continued : Reply
 continued = happened (Continued (pos 1))
@@ -110,10 +110,10 @@ of_one_holder = (refl, refl, refl)
 codes_of_an_exit : (is_code (pos 2147483647) ≡ true) × (is_code (pos 2147483648) ≡ false) × (is_code (negsuc 2147483647) ≡ true) × (is_code (negsuc 2147483648) ≡ false)
 codes_of_an_exit = (refl, refl, refl, refl)
 
-lengths : (is_short (Output Stderr (replicate 128 97)) ≡ true) × (is_short (Output Stderr (replicate 129 97)) ≡ false) × (is_short (StoppedBy (replicate 64 97) (pos 1)) ≡ true) × (is_short (StoppedBy (replicate 65 97) (pos 1)) ≡ false)
+lengths : (is_short (Output Stderr (replicate 128 97) []) ≡ true) × (is_short (Output Stderr (replicate 129 97) []) ≡ false) × (is_short (StoppedBy (replicate 64 97) (pos 1) []) ≡ true) × (is_short (StoppedBy (replicate 65 97) (pos 1) []) ≡ false)
 lengths = (refl, refl, refl, refl)
 
-thread_ids : (is_short (StoppedBy [] (negsuc 9007199254740990)) ≡ true) × (is_short (StoppedBy [] (negsuc 9007199254740991)) ≡ false) × (is_short (Continued (pos 9007199254740991)) ≡ true) × (is_short (Continued (pos 9007199254740992)) ≡ false)
+thread_ids : (is_short (StoppedBy [] (negsuc 9007199254740990) []) ≡ true) × (is_short (StoppedBy [] (negsuc 9007199254740991) []) ≡ false) × (is_short (Continued (pos 9007199254740991)) ≡ true) × (is_short (Continued (pos 9007199254740992)) ≡ false)
 thread_ids = (refl, refl, refl, refl)
 
 abbrev frame : ℕ → Option ℕ → ℕ → Frame

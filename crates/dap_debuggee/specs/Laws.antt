@@ -37,10 +37,10 @@ AnswersQuery (Err OutOfMemory) of answer = Unit {0}
 -- what a poll may give in a state
 abbrev pub may_happen : State → Happening → Bool
 may_happen state happening.Nothing = true
-may_happen Running (happening.Output category text) = true
-may_happen Running (happening.Stopped reason thread) = true
+may_happen Running (happening.Output category text more) = true
+may_happen Running (happening.Stopped reason thread more) = true
 may_happen Running (happening.Exited code) = true
-may_happen Stopped (happening.Output category text) = true
+may_happen Stopped (happening.Output category text more) = true
 may_happen Stopped (happening.Continued thread) = true
 may_happen Stopped (happening.Exited code) = true
 may_happen _ _ = false
@@ -62,7 +62,7 @@ may_answer _ _ _ = false
 abbrev pub state_after : State → Act → Reply → State
 state_after state to_start done = Running
 state_after state (to_resume how thread) done = Running
-state_after state to_poll (happened (happening.Stopped reason thread)) = Stopped
+state_after state to_poll (happened (happening.Stopped reason thread more)) = Stopped
 state_after state to_poll (happened (happening.Continued thread)) = Running
 state_after state to_poll (happened (happening.Exited code)) = Gone
 state_after state to_end done = Gone
@@ -101,7 +101,7 @@ keeps_answers _ _ = false
 -- no frame, scope or variable that was given changes
 abbrev pub keeps_frames : Act → Reply → Bool
 keeps_frames to_poll (happened happening.Nothing) = true
-keeps_frames to_poll (happened (happening.Output category text)) = true
+keeps_frames to_poll (happened (happening.Output category text more)) = true
 keeps_frames a reply = keeps_answers a reply
 
 -- an answer that was given stays; one that was refused may be given later
@@ -173,8 +173,8 @@ is_code z = int_le (negsuc 2147483647) z && int_le z (pos 2147483647)
 
 abbrev pub is_short : Happening → Bool
 is_short happening.Nothing = true
-is_short (happening.Output category text) = nat_le (length text) 128
-is_short (happening.Stopped reason thread) = nat_le (length reason) 64 && is_int thread
+is_short (happening.Output category text more) = nat_le (length text) 128
+is_short (happening.Stopped reason thread more) = nat_le (length reason) 64 && is_int thread
 is_short (happening.Continued thread) = is_int thread
 is_short (happening.Exited code) = is_code code
 

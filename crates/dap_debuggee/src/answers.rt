@@ -47,8 +47,12 @@ pub enum Asked {
 #[derive(Clone, Copy, Debug, PartialEq, Eq)]
 pub enum Category {
     Console,
+    /// What a client shows where it can't be overlooked.
+    Important,
     Stdout,
     Stderr,
+    /// What a client hands on to who gathers such, and shows nobody.
+    Telemetry,
 }
 
 /// What a poll gives.
@@ -59,12 +63,17 @@ pub enum Happening {
         category: Category,
         /// At most 128 bytes.
         text: Text,
+        /// What is to be said beside these, such as `source` and `line`. A client is told none of it where the event would have
+        /// more bytes than a body may have.
+        more: More,
     },
     Stopped {
         /// At most 64 bytes.
         reason: Text,
         /// The id of the thread that stopped.
         thread: i64,
+        /// What is to be said beside these, such as `description` and `hitBreakpointIds`; told as that of output.
+        more: More,
     },
     /// It went on by itself.
     Continued {
@@ -178,8 +187,10 @@ impl Category {
     {
         match self {
             Category::Console => "console",
+            Category::Important => "important",
             Category::Stdout => "stdout",
             Category::Stderr => "stderr",
+            Category::Telemetry => "telemetry",
         }
     }
 }

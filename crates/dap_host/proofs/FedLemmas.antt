@@ -37,8 +37,8 @@ over old new given mail e put is =
 
 -- why something is dropped is no matter of the mail
 unheard_over : (c : Coming) (mail : MailState) (v : LiveState) → why_unheard c (with_mail mail v) ≡ why_unheard c v
-unheard_over (coming.Output category text) mail v = refl
-unheard_over (coming.Stopped reason thread shows later) mail v = refl
+unheard_over (coming.Output category text more) mail v = refl
+unheard_over (coming.Stopped reason thread shows later more) mail v = refl
 unheard_over (coming.Continued thread) mail v = refl
 unheard_over (coming.Exited code) mail v = refl
 unheard_over (coming.Learned text value holder more) mail v = refl

@@ -16,8 +16,8 @@ use Rattle.dap_line.specs.declared.told.Unread.TheVariants as unread
 
 -- what comes of what is told, over these sources
 abbrev pub IsComing : List RecordedSource → Told → Coming → Type 0
-IsComing sources (told.Output category text) c = c ≡ coming.Output category text
-IsComing sources (told.Stopped reason thread moment later) c = (shows : MomentAlone) × (read_moment sources moment ≡ Ok shows) × (c ≡ coming.Stopped reason thread shows later)
+IsComing sources (told.Output category text more) c = c ≡ coming.Output category text more
+IsComing sources (told.Stopped reason thread moment later more) c = (shows : MomentAlone) × (read_moment sources moment ≡ Ok shows) × (c ≡ coming.Stopped reason thread shows later more)
 IsComing sources (told.Continued thread) c = c ≡ coming.Continued thread
 IsComing sources (told.Exited code) c = c ≡ coming.Exited code
 IsComing sources (told.Learned text value holder more) c = c ≡ coming.Learned text value holder more
@@ -37,7 +37,7 @@ IfRefused Is (unread.Refused why) = Is why
 IfRefused Is unread.OutOfMemory = Unit {0}
 
 abbrev pub Fails : List RecordedSource → Told → Unread → Type 0
-Fails sources (told.Stopped reason thread moment later) u = IfRefused (IsBadMoment sources moment) u
+Fails sources (told.Stopped reason thread moment later more) u = IfRefused (IsBadMoment sources moment) u
 Fails sources (told.Loaded more) u = IfRefused (AreBadSources more) u
 Fails sources t u = IfRefused (λ why. ⊥) u
 

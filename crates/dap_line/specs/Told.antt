@@ -4,7 +4,7 @@ use Rattle.serde_json.specs.Data.{Data, Items, no_items, item}
 use Rattle.serde_json.specs.Find.{as_str, as_bool, as_array}
 use Rattle.dap_json.specs.Numbers.{int_of, number_of}
 use Rattle.dap_debuggee.specs.declared.answers.Category.{Category as Place}
-use Rattle.dap_debuggee.specs.declared.answers.Category.TheVariants.{Console, Stdout, Stderr}
+use Rattle.dap_debuggee.specs.declared.answers.Category.TheVariants.{Console, Important, Stdout, Stderr, Telemetry}
 use Rattle.dap_debuggee.specs.declared.answers.Happening.{Happening}
 use Rattle.dap_debuggee.specs.declared.answers.Happening.TheVariants as happening
 use Rattle.dap_debuggee.specs.declared.answers.Variable.{Variable}
@@ -71,7 +71,12 @@ GivesList result read = Returns (λ xs. xs.items) SaysKey result read
 -- ---- values
 
 abbrev pub category_named : List ℕ → Option Place
-category_named name = if bytes_eq name (codes "console") then Some Console else (if bytes_eq name (codes "stdout") then Some Stdout else (if bytes_eq name (codes "stderr") then Some Stderr else None))
+category_named name =
+    if bytes_eq name (codes "console") then Some Console else
+    (if bytes_eq name (codes "important") then Some Important else
+    (if bytes_eq name (codes "stdout") then Some Stdout else
+    (if bytes_eq name (codes "stderr") then Some Stderr else
+    (if bytes_eq name (codes "telemetry") then Some Telemetry else None))))
 
 abbrev pub category_of : Data → Option Place
 category_of d = option_and_then category_named (as_str d)
@@ -104,7 +109,8 @@ unfoldable pub output_in : Data → Read Told
 output_in d = do
   category ← optional_or category_of Console Category d
   text ← required_at as_str Output d
-  Ok (told.Output category text)
+  said ← optional_at more_of More d
+  Ok (told.Output category text (unwrap_or said []))
 
 -- nothing is told later where nothing is said
 unfoldable pub stop_in : Data → Read Told
@@ -112,8 +118,9 @@ stop_in d = do
   reason ← required_at as_str Reason d
   thread ← required_at int_of Thread d
   later ← optional_or as_bool false Later d
+  said ← optional_at more_of More d
   moment ← or_bad Moment (value_at Moment d)
-  Ok (told.Stopped reason thread moment later)
+  Ok (told.Stopped reason thread moment later (unwrap_or said []))
 
 unfoldable pub continued_in : Data → Read Told
 continued_in d = do
@@ -225,8 +232,8 @@ Tells result text = Returns (λ x. x) Says result (said_of text)
 -- ---- what happens by it
 
 abbrev pub happening_of : Told → Happening
-happening_of (told.Output category text) = happening.Output category text
-happening_of (told.Stopped reason thread moment later) = happening.Stopped reason thread
+happening_of (told.Output category text more) = happening.Output category text more
+happening_of (told.Stopped reason thread moment later more) = happening.Stopped reason thread more
 happening_of (told.Continued thread) = happening.Continued thread
 happening_of (told.Exited code) = happening.Exited code
 happening_of (told.Learned text value holder more) = happening.Nothing

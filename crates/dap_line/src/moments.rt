@@ -40,18 +40,28 @@ pub fn coming_of(texts: &mut Texts, sources: &Sources, told: Told) -> Result<Com
     ensures fails { IfErr result (Fails sources.now told) }
 {
     match told {
-        Told::Output { category, text } => Ok(Coming::Output { category, text }),
+        Told::Output {
+            category,
+            text,
+            more,
+        } => Ok(Coming::Output {
+            category,
+            text,
+            more,
+        }),
         Told::Stopped {
             reason,
             thread,
             moment,
             later,
+            more,
         } => match moment_in(texts, sources, &moment) {
             Ok(shows) => Ok(Coming::Stopped {
                 reason,
                 thread,
                 shows,
                 later,
+                more,
             }),
             Err(unread) => Err(unread),
         },

@@ -25,12 +25,14 @@ pub enum Told {
     Output {
         category: Category,
         text: Text,
+        more: More,
     },
     Stopped {
         reason: Text,
         thread: i64,
         moment: Tree,
         later: bool,
+        more: More,
     },
     Continued {
         thread: i64,
@@ -120,8 +122,10 @@ fn category_named(name: &str) -> Option<Category>
 {
     match name {
         "console" => Some(Category::Console),
+        "important" => Some(Category::Important),
         "stdout" => Some(Category::Stdout),
         "stderr" => Some(Category::Stderr),
+        "telemetry" => Some(Category::Telemetry),
         _ => None,
     }
 }
@@ -212,7 +216,13 @@ fn output_in(alloc: Global, told: &Value) -> Result<Told, Unread>
 {
     let category = category_in(told)?;
     let text = text_at(alloc, told, HostKey::Output)?;
-    Ok(Told::Output { category, text })
+    let said = beside_in(alloc, told)?;
+    let more = said?.unwrap_or(More::none());
+    Ok(Told::Output {
+        category,
+        text,
+        more,
+    })
 }
 
 #[tactic(auto, unfolding(crate::specs::Told::stop_in))]
@@ -222,12 +232,15 @@ fn stop_in(alloc: Global, told: &mut Value) -> Result<Told, Unread>
     let reason = text_at(alloc, told, HostKey::Reason)?;
     let thread = at(told, HostKey::Thread).required_int()?;
     let later = at(told, HostKey::Later).flag_or(false)?;
+    let said = beside_in(alloc, told)?;
+    let more = said?.unwrap_or(More::none());
     let moment = field::take_tree(told, HostKey::Moment.name()).ok_or(HostKey::Moment)?;
     Ok(Told::Stopped {
         reason,
         thread,
         moment,
         later,
+        more,
     })
 }
 
@@ -417,13 +430,24 @@ pub fn happening_in(told: &Told) -> Result<Happening, AllocError>
     ensures { IfOk result (λ happening. happening ≡ happening_of told.now) }
 {
     match told {
-        Told::Output { category, text } => Ok(Happening::Output {
+        Told::Output {
+            category,
+            text,
+            more,
+        } => Ok(Happening::Output {
             category: *category,
             text: text.clone()?,
+            more: more.clone()?,
         }),
-        Told::Stopped { reason, thread, .. } => Ok(Happening::Stopped {
+        Told::Stopped {
+            reason,
+            thread,
+            more,
+            ..
+        } => Ok(Happening::Stopped {
             reason: reason.clone()?,
             thread: *thread,
+            more: more.clone()?,
         }),
         Told::Continued { thread } => Ok(Happening::Continued { thread: *thread }),
         Told::Exited { code } => Ok(Happening::Exited { code: *code }),

@@ -28,17 +28,17 @@ use Rattle.dap_live.specs.MailState.{MailState, no_mail, with_coming, with_dropp
 use Rattle.dap_live.specs.LiveLaws.{reply_to, here_after, learned_after, sources_after, mail_after}
 
 abbrev wrote : List ℕ → Happening
-wrote text = happening.Output Stdout text
+wrote text = happening.Output Stdout text []
 
 abbrev stopped : Happening
-stopped = happening.Stopped (codes "step") (pos 1)
+stopped = happening.Stopped (codes "step") (pos 1) []
 
 -- ---- what is dropped
 
 turns : (why_dropped Running stopped ≡ None) × (why_dropped Stopped stopped ≡ Some OutOfTurn) × (why_dropped NotStarted stopped ≡ Some OutOfTurn) × (why_dropped Gone (wrote (codes "x")) ≡ Some OutOfTurn) × (why_dropped Running (happening.Continued (pos 1)) ≡ Some OutOfTurn) × (why_dropped Stopped (happening.Continued (pos 1)) ≡ None)
 turns = (refl, refl, refl, refl, refl, refl)
 
-ranges : (why_dropped Running (wrote (replicate 128 97)) ≡ None) × (why_dropped Running (wrote (replicate 129 97)) ≡ Some OutOfRange) × (why_dropped Running (happening.Stopped [] (pos 9007199254740992)) ≡ Some OutOfRange) × (why_dropped Gone (wrote (replicate 129 97)) ≡ Some OutOfTurn) × (why_dropped Running (happening.Exited (pos 3)) ≡ None)
+ranges : (why_dropped Running (wrote (replicate 128 97)) ≡ None) × (why_dropped Running (wrote (replicate 129 97)) ≡ Some OutOfRange) × (why_dropped Running (happening.Stopped [] (pos 9007199254740992) []) ≡ Some OutOfRange) × (why_dropped Gone (wrote (replicate 129 97)) ≡ Some OutOfTurn) × (why_dropped Running (happening.Exited (pos 3)) ≡ None)
 ranges = (refl, refl, refl, refl, refl)
 
 told : (heard Running stopped ≡ stopped) × (heard Stopped stopped ≡ happening.Nothing) × (heard Stopped (wrote (codes "x")) ≡ wrote (codes "x"))
@@ -161,13 +161,13 @@ abbrev two : Coming
 two = coming.Variables 0 (one (codes "2"))
 
 abbrev halt : Coming
-halt = coming.Stopped (codes "step") (pos 3) moment false
+halt = coming.Stopped (codes "step") (pos 3) moment false []
 
 abbrev sum_is : Coming
 sum_is = coming.Learned (codes "x + 1") (Some (codes "2")) None None
 
 -- a poll gives just what was said, or nothing where that is dropped
-polls : (reply_to to_poll (at Stopped (Some seven)) ≡ happened (happening.Exited (pos 7))) × (reply_to to_poll (at Running (Some halt)) ≡ happened (happening.Stopped (codes "step") (pos 3))) × (reply_to to_poll (at Stopped (Some halt)) ≡ happened happening.Nothing) × (reply_to to_poll (at Stopped (Some two)) ≡ happened happening.Nothing) × (reply_to to_poll (at Stopped None) ≡ happened happening.Nothing)
+polls : (reply_to to_poll (at Stopped (Some seven)) ≡ happened (happening.Exited (pos 7))) × (reply_to to_poll (at Running (Some halt)) ≡ happened (happening.Stopped (codes "step") (pos 3) [])) × (reply_to to_poll (at Stopped (Some halt)) ≡ happened happening.Nothing) × (reply_to to_poll (at Stopped (Some two)) ≡ happened happening.Nothing) × (reply_to to_poll (at Stopped None) ≡ happened happening.Nothing)
 polls = (refl, refl, refl, refl, refl)
 
 -- and leaves why it is dropped; what came is taken, and the acts stay
@@ -206,7 +206,7 @@ nine_set = refl
 
 -- one that was read over more sources than there are is not shown
 abbrev wide : Coming
-wide = coming.Stopped (codes "step") (pos 3) (record moment { sources = 2 }) false
+wide = coming.Stopped (codes "step") (pos 3) (record moment { sources = 2 }) false []
 
 too_wide : (reply_to to_poll (at Running (Some wide)) ≡ happened happening.Nothing) × (here_after to_poll (at Running (Some wide)) ≡ shows true) × (mail_after to_poll done (at Running (Some wide)) ≡ left (Some TooManySources))
 too_wide = (refl, refl, refl)

@@ -17,8 +17,8 @@ use Rattle.dap_live.specs.PrivateHearing.{heard_of, after_hearing}
 -- what is heard does not depend on the mail
 same_why : (o : Option Coming) (v : LiveState) (m : MailState) → why_not_heard o (with_mail m v) ≡ why_not_heard o v
 same_why None v m = refl
-same_why (Some (coming.Output category text)) v m = refl
-same_why (Some (coming.Stopped reason thread shows later)) v m = refl
+same_why (Some (coming.Output category text more)) v m = refl
+same_why (Some (coming.Stopped reason thread shows later more)) v m = refl
 same_why (Some (coming.Continued thread)) v m = refl
 same_why (Some (coming.Exited code)) v m = refl
 same_why (Some (coming.Learned text value holder more)) v m = refl
@@ -27,8 +27,8 @@ same_why (Some (coming.Sources more)) v m = refl
 
 same_told : (o : Option Coming) (v : LiveState) (m : MailState) → told_by o (with_mail m v) ≡ told_by o v
 same_told None v m = refl
-same_told (Some (coming.Output category text)) v m = refl
-same_told (Some (coming.Stopped reason thread shows later)) v m = refl
+same_told (Some (coming.Output category text more)) v m = refl
+same_told (Some (coming.Stopped reason thread shows later more)) v m = refl
 same_told (Some (coming.Continued thread)) v m = refl
 same_told (Some (coming.Exited code)) v m = refl
 same_told (Some (coming.Learned text value holder more)) v m = refl

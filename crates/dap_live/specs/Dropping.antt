@@ -47,7 +47,7 @@ why_too_wide shows sources = if nat_le shows.sources (length sources) then None 
 
 -- why a stop with this moment is not heard
 abbrev pub why_not_shown : State → List RecordedSource → List ℕ → ℤ → MomentAlone → Option Dropped
-why_not_shown state sources reason thread shows = first_of (why_dropped state (happening.Stopped reason thread)) (why_too_wide shows sources)
+why_not_shown state sources reason thread shows = first_of (why_dropped state (happening.Stopped reason thread [])) (why_too_wide shows sources)
 
 -- why these sources do not come behind those of the debuggee
 abbrev pub why_no_room : List RecordedSource → List RecordedSource → Option Dropped
@@ -56,8 +56,8 @@ why_no_room more sources = if nat_le (length sources + length more) 65536 then N
 -- ---- whatever a host says
 
 abbrev pub why_unheard : Coming → LiveState → Option Dropped
-why_unheard (coming.Output category text) v = why_dropped v.state (happening.Output category text)
-why_unheard (coming.Stopped reason thread shows later) v = why_not_shown v.state v.sources reason thread shows
+why_unheard (coming.Output category text more) v = why_dropped v.state (happening.Output category text more)
+why_unheard (coming.Stopped reason thread shows later more) v = why_not_shown v.state v.sources reason thread shows
 why_unheard (coming.Continued thread) v = why_dropped v.state (happening.Continued thread)
 why_unheard (coming.Exited code) v = why_dropped v.state (happening.Exited code)
 why_unheard (coming.Learned text value holder more) v = None

@@ -18,8 +18,8 @@ use Rattle.dap_live.specs.LiveShown.{LiveState}
 
 -- what happens by what a host says
 abbrev pub happening_by : Coming → Happening
-happening_by (coming.Output category text) = happening.Output category text
-happening_by (coming.Stopped reason thread shows later) = happening.Stopped reason thread
+happening_by (coming.Output category text more) = happening.Output category text more
+happening_by (coming.Stopped reason thread shows later more) = happening.Stopped reason thread more
 happening_by (coming.Continued thread) = happening.Continued thread
 happening_by (coming.Exited code) = happening.Exited code
 happening_by (coming.Learned text value holder more) = happening.Nothing
@@ -55,7 +55,7 @@ with_told holder variables here = option_map (λ (h : Here). record h { told = w
 
 -- the moment of a stop is shown, of which nothing is told yet, and variables that are told, where these are not dropped; else what was
 abbrev pub here_with : Coming → Option Dropped → Option Here → Option Here
-here_with (coming.Stopped reason thread shows later) None here = Some (record { moment = shows; later = later; told = [] })
+here_with (coming.Stopped reason thread shows later more) None here = Some (record { moment = shows; later = later; told = [] })
 here_with (coming.Variables holder variables) None here = with_told holder variables here
 here_with _ _ here = here
 

@@ -160,11 +160,11 @@ same_nothing Running = refl
 same_nothing Stopped = refl
 same_nothing Gone = refl
 
-same_output : (s : State) (category : Category) (text : List ℕ) → state_after s to_poll (happened (happening.Output category text)) ≡ s
-same_output NotStarted category text = refl
-same_output Running category text = refl
-same_output Stopped category text = refl
-same_output Gone category text = refl
+same_output : (s : State) (category : Category) (text : List ℕ) (more : List Member) → state_after s to_poll (happened (happening.Output category text more)) ≡ s
+same_output NotStarted category text more = refl
+same_output Running category text more = refl
+same_output Stopped category text more = refl
+same_output Gone category text more = refl
 
 same_sets : (s : State) (source : SourceKey) (lines : List ℕ) (r : Reply) → state_after s (to_set_breakpoints source lines) r ≡ s
 same_sets NotStarted source lines r = refl
@@ -190,8 +190,8 @@ same_state s to_pause r k = same_pause s r
 same_state s to_poll done k = absurd (true≢false (sym k))
 same_state s to_poll refused k = absurd (true≢false (sym k))
 same_state s to_poll (happened happening.Nothing) k = same_nothing s
-same_state s to_poll (happened (happening.Output category text)) k = same_output s category text
-same_state s to_poll (happened (happening.Stopped reason thread)) k = absurd (true≢false (sym k))
+same_state s to_poll (happened (happening.Output category text more)) k = same_output s category text more
+same_state s to_poll (happened (happening.Stopped reason thread more)) k = absurd (true≢false (sym k))
 same_state s to_poll (happened (happening.Continued thread)) k = absurd (true≢false (sym k))
 same_state s to_poll (happened (happening.Exited code)) k = absurd (true≢false (sym k))
 same_state s (to_set_breakpoints source lines) r k = same_sets s source lines r
@@ -264,10 +264,10 @@ first_none None other is = refl
 first_none (Some x) other is = absurd (cc is)
 
 may_tell_of : (c : Coming) (v : LiveState) → IsTrue (may_happen v.state (unless_dropped (why_unheard c v) (happening_by c)))
-may_tell_of (coming.Output category text) v = may_dropped v.state (happening.Output category text)
-may_tell_of (coming.Stopped reason thread shows later) v =
-    let h : Happening = happening.Stopped reason thread in
-    let unheard : Option Dropped = why_unheard (coming.Stopped reason thread shows later) v in
+may_tell_of (coming.Output category text more) v = may_dropped v.state (happening.Output category text more)
+may_tell_of (coming.Stopped reason thread shows later more) v =
+    let h : Happening = happening.Stopped reason thread more in
+    let unheard : Option Dropped = why_unheard (coming.Stopped reason thread shows later more) v in
     may_unless v.state h unheard (λ is. not_dropped (may_happen v.state h) (is_short h) (first_none (why_dropped v.state h) (why_too_wide shows v.sources) is))
 may_tell_of (coming.Continued thread) v = may_dropped v.state (happening.Continued thread)
 may_tell_of (coming.Exited code) v = may_dropped v.state (happening.Exited code)
@@ -434,9 +434,9 @@ told_stays v w holder xs state heard here =
 -- a poll that keeps the frames showed no other stop
 heard_stays : (v w : LiveState) (c : Coming) (unheard : Option Dropped) → w.state ≡ v.state → why_unheard c v ≡ unheard → w.here ≡ here_with c unheard v.here
     → IsTrue (keeps_frames to_poll (happened (unless_dropped unheard (happening_by c)))) → FramesStay (shown_live v) (shown_live w)
-heard_stays v w (coming.Output category text) unheard state is here k = shown_stays v w state here
-heard_stays v w (coming.Stopped reason thread shows later) None state is here k = absurd (true≢false (sym k))
-heard_stays v w (coming.Stopped reason thread shows later) (Some x) state is here k = shown_stays v w state here
+heard_stays v w (coming.Output category text more) unheard state is here k = shown_stays v w state here
+heard_stays v w (coming.Stopped reason thread shows later more) None state is here k = absurd (true≢false (sym k))
+heard_stays v w (coming.Stopped reason thread shows later more) (Some x) state is here k = shown_stays v w state here
 heard_stays v w (coming.Continued thread) unheard state is here k = shown_stays v w state here
 heard_stays v w (coming.Exited code) unheard state is here k = shown_stays v w state here
 heard_stays v w (coming.Learned text value holder more) unheard state is here k = shown_stays v w state here
@@ -470,8 +470,8 @@ list_stays : (v w : LiveState) → w.sources ≡ v.sources → SourcesStay (show
 list_stays v w same = sources-stay (shown_live v) (shown_live w) (same_sources v w same)
 
 more_stays : (v w : LiveState) (c : Coming) (unheard : Option Dropped) → w.sources ≡ sources_with c unheard v.sources → SourcesStay (shown_live v) (shown_live w)
-more_stays v w (coming.Output category text) unheard are = list_stays v w are
-more_stays v w (coming.Stopped reason thread shows later) unheard are = list_stays v w are
+more_stays v w (coming.Output category text more) unheard are = list_stays v w are
+more_stays v w (coming.Stopped reason thread shows later more) unheard are = list_stays v w are
 more_stays v w (coming.Continued thread) unheard are = list_stays v w are
 more_stays v w (coming.Exited code) unheard are = list_stays v w are
 more_stays v w (coming.Learned text value holder more) unheard are = list_stays v w are

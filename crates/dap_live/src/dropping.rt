@@ -22,7 +22,7 @@ fn fits(happening: &Happening) -> bool
     match happening {
         Happening::Nothing => true,
         Happening::Output { text, .. } => text.len() <= 128,
-        Happening::Stopped { reason, thread } => reason.len() <= 64 && is_id(*thread),
+        Happening::Stopped { reason, thread, .. } => reason.len() <= 64 && is_id(*thread),
         Happening::Continued { thread } => is_id(*thread),
         Happening::Exited { code } => {
             let code = *code;

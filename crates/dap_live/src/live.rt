@@ -25,13 +25,23 @@ fn copied(happening: &Happening) -> Result<Happening, AllocError>
 {
     match happening {
         Happening::Nothing => Ok(Happening::Nothing),
-        Happening::Output { category, text } => Ok(Happening::Output {
+        Happening::Output {
+            category,
+            text,
+            more,
+        } => Ok(Happening::Output {
             category: *category,
             text: text.clone()?,
+            more: more.clone()?,
         }),
-        Happening::Stopped { reason, thread } => Ok(Happening::Stopped {
+        Happening::Stopped {
+            reason,
+            thread,
+            more,
+        } => Ok(Happening::Stopped {
             reason: reason.clone()?,
             thread: *thread,
+            more: more.clone()?,
         }),
         Happening::Continued { thread } => Ok(Happening::Continued { thread: *thread }),
         Happening::Exited { code } => Ok(Happening::Exited { code: *code }),
@@ -242,15 +252,20 @@ impl Live {
         alloc: Global,
         reason: Text,
         thread: i64,
+        more: More,
         shows: Snapshot,
-        more: bool,
+        later: bool,
     ) -> Result<Heard, AllocError>
-        ensures heard { IfOk result (λ h. h ≡ heard_of (Some (Coming.Stopped reason thread shows more)) self.old) }
-        ensures view { OnOk result (self.new ≡ after_hearing (Some (Coming.Stopped reason thread shows more)) self.old) }
+        ensures heard { IfOk result (λ h. h ≡ heard_of (Some (Coming.Stopped reason thread shows later more)) self.old) }
+        ensures view { OnOk result (self.new ≡ after_hearing (Some (Coming.Stopped reason thread shows later more)) self.old) }
         ensures memory { OnErr result (self.new ≡ self.old) }
         ensures in_range { IfOk result (λ h. IsTrue (is_short h.happening)) }
     {
-        let happening = Happening::Stopped { reason, thread };
+        let happening = Happening::Stopped {
+            reason,
+            thread,
+            more,
+        };
         if let Some(why) = why_dropped(self.state, &happening) {
             return Ok(self.drop_it(why));
         }
@@ -261,7 +276,7 @@ impl Live {
         self.state = State::Stopped;
         self.here = Some(Here {
             moment: shows,
-            later: more,
+            later,
             told: HolderMap::new(alloc),
         });
         self.learned = None;
@@ -344,13 +359,22 @@ impl Live {
             }))),
             Coming::Variables { holder, variables } => self.see_variables(holder, variables),
             Coming::Sources(more) => self.see_sources(alloc, more),
-            Coming::Output { category, text } => self.see(Happening::Output { category, text }),
+            Coming::Output {
+                category,
+                text,
+                more,
+            } => self.see(Happening::Output {
+                category,
+                text,
+                more,
+            }),
             Coming::Stopped {
                 reason,
                 thread,
                 shows,
                 later,
-            } => self.stop(alloc, reason, thread, shows, later),
+                more,
+            } => self.stop(alloc, reason, thread, more, shows, later),
             Coming::Continued { thread } => self.see(Happening::Continued { thread }),
             Coming::Exited { code } => self.see(Happening::Exited { code }),
         }

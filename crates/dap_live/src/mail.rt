@@ -22,6 +22,8 @@ pub enum Coming {
     Output {
         category: Category,
         text: Text,
+        /// What is said beside these.
+        more: More,
     },
     /// It stopped.
     Stopped {
@@ -33,6 +35,8 @@ pub enum Coming {
         /// Whether more is told later. A scope of the moment that came without its variables is then refused until they are told;
         /// else it has none, like one that came with no variables.
         later: bool,
+        /// What is said beside the reason and the thread.
+        more: More,
     },
     /// It went on by itself.
     Continued {

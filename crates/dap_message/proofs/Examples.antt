@@ -54,16 +54,16 @@ without_a_body : canon (event_message 2 (event_name initialized) (event_body ini
 unfolding canon tree_of event_members escape_byte digits
 without_a_body = refl
 
-a_stop : canon (event_message 10 (event_name (stopped (codes "pause") (pos 1))) (event_body (stopped (codes "pause") (pos 1)))) ≡ codes "{\"body\":{\"allThreadsStopped\":true,\"reason\":\"pause\",\"threadId\":1},\"event\":\"stopped\",\"seq\":10,\"type\":\"event\"}"
+a_stop : canon (event_message 10 (event_name (stopped (codes "pause") (pos 1) [])) (event_body (stopped (codes "pause") (pos 1) []))) ≡ codes "{\"body\":{\"allThreadsStopped\":true,\"reason\":\"pause\",\"threadId\":1},\"event\":\"stopped\",\"seq\":10,\"type\":\"event\"}"
 unfolding canon tree_of event_members escape_byte digits
 a_stop = refl
 
 -- texts at their limits, that JSON has to escape
-longest_output : length (canon (event_message max_seq (event_name (output (replicate 7 1) (replicate 128 1))) (event_body (output (replicate 7 1) (replicate 128 1))))) ≡ 901
+longest_output : length (canon (event_message max_seq (event_name (output (replicate 9 1) (replicate 128 1) [])) (event_body (output (replicate 9 1) (replicate 128 1) [])))) ≡ 913
 unfolding canon tree_of event_members escape_byte digits
 longest_output = refl
 
-longest_reason : IsWithin (stopped (replicate 64 1) (negsuc 9007199254740990))
+longest_reason : IsWithin (stopped (replicate 64 1) (negsuc 9007199254740990) [])
 longest_reason = (omega arith, refl)
 
 ends_of_exit_codes : (is_exit_code (negsuc 2147483647) ≡ true) × (is_exit_code (pos 2147483648) ≡ false)

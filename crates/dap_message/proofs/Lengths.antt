@@ -26,7 +26,7 @@ use Rattle.dap_body.specs.declared.body.Body.TheVariants.{Initialize, Continue, 
 use Rattle.dap_body.specs.declared.failure.Failure.{Failure}
 use Rattle.dap_body.specs.declared.failure.Failure.TheVariants.{NotInitialized, BadArguments}
 use Rattle.dap_envelope.specs.Canon.{canon, tree_of, members_of, response_members, event_members}
-use Rattle.dap_message.specs.MessageParts.{failure_response, success_response, event_message, has_fixed_shape, AdapterEvent, initialized, output, stopped, continued, exited, terminated, event_name, event_body}
+use Rattle.dap_message.specs.MessageParts.{failure_response, success_response, event_message, has_fixed_shape, AdapterEvent, initialized, output, stopped, continued, exited, terminated, event_name, event_body, without_more}
 use Rattle.dap_message.specs.Lengths.{is_exit_code, IsWithin, FailuresAreShort, FixedResponsesAreShort, EventsAreShort}
 use Rattle.dap_envelope.specs.Refusals.{max_command}
 use Rattle.dap_envelope.specs.declared.message.Message.{Message}
@@ -160,14 +160,14 @@ fixed_responses_are_short seq r c b f s q h = omega (arith, length-canon (succes
 
 -- ---- events
 
-event_body_size : (e : AdapterEvent) → IsWithin e → length (quoted (event_name e)) + body_size (event_body e) ≤ 900
+event_body_size : (e : AdapterEvent) → IsWithin e → length (quoted (event_name e)) + body_size (event_body (without_more e)) ≤ 900
 unfolding escape_byte
 event_body_size initialized h = omega arith
-event_body_size (output category text) h = omega (arith, quoted_le category, quoted_le text)
-event_body_size (stopped reason thread) h = omega (arith, quoted_le reason, int_size thread h.1)
+event_body_size (output category text more) h = omega (arith, quoted_le category, quoted_le text)
+event_body_size (stopped reason thread more) h = omega (arith, quoted_le reason, int_size thread h.1)
 event_body_size (continued thread) h = omega (arith, int_size thread h)
 event_body_size (exited code) h = omega (arith, code_size code h)
 event_body_size terminated h = omega arith
 
 pub events_are_short : EventsAreShort
-events_are_short seq e s h = omega (arith, length-canon (event_message seq (event_name e) (event_body e)), event_size seq (event_name e) (event_body e) s, event_body_size e h)
+events_are_short seq e s h = omega (arith, length-canon (event_message seq (event_name e) (event_body (without_more e))), event_size seq (event_name e) (event_body (without_more e)) s, event_body_size e h)

@@ -1,12 +1,13 @@
 -- How long what is written can become, where its shape is fixed: each failure, each event, and each response whose body is none or one of a fixed shape.
 -- Specification, "ErrorResponse", "InitializeResponse", "ContinueResponse", "RunInTerminalResponse" and "Events". The limits, and that 1024 bytes are enough, are this profile's choice.
-use Rattle.std.specs.Prelude.{ℕ, ◌≤◌, ◌&&◌, ℤ, pos, negsuc, int_le, List, length, Bool, Option, IsTrue, ⊤}
+use Rattle.std.specs.Prelude.{ℕ, ◌≤◌, ◌&&◌, ℤ, pos, negsuc, int_le, nat_le, List, [], length, Bool, Option, IsTrue, ⊤, if◌then◌else◌}
 use Rattle.dap_json.specs.Field.{max_seq}
+use Rattle.dap_json.specs.declared.more.Member.{Member}
 use Rattle.dap_command.specs.Numbers.{is_int}
 use Rattle.dap_body.specs.Body.{data_in}
 use Rattle.dap_body.specs.declared.body.Body.{Body}
 use Rattle.dap_body.specs.declared.failure.Failure.{Failure}
-use Rattle.dap_message.specs.MessageParts.{failure_response, success_response, event_message, has_fixed_shape, AdapterEvent, initialized, output, stopped, continued, exited, terminated, event_name, event_body}
+use Rattle.dap_message.specs.MessageParts.{failure_response, success_response, event_message, has_fixed_shape, AdapterEvent, initialized, output, stopped, continued, exited, terminated, event_name, event_body, without_more}
 use Rattle.dap_envelope.specs.Canon.{canon}
 use Rattle.dap_envelope.specs.Refusals.{max_command}
 use Rattle.dap_envelope.specs.declared.message.Message.{Message}
@@ -15,14 +16,30 @@ use Rattle.dap_envelope.specs.declared.message.Message.{Message}
 abbrev pub is_exit_code : ℤ → Bool
 is_exit_code z = int_le (negsuc 2147483647) z && int_le z (pos 2147483647)
 
--- what a debuggee tells at most: a category of 7 bytes, a text of 128, a reason of 64
+-- what a debuggee tells at most: a category of 9 bytes, a text of 128, a reason of 64. Of what it says beside them nothing is said.
 abbrev pub IsWithin : AdapterEvent → Type 0
 IsWithin initialized = ⊤
-IsWithin (output category text) = (length category ≤ 7) × (length text ≤ 128)
-IsWithin (stopped reason thread) = (length reason ≤ 64) × IsTrue (is_int thread)
+IsWithin (output category text more) = (length category ≤ 9) × (length text ≤ 128)
+IsWithin (stopped reason thread more) = (length reason ≤ 64) × IsTrue (is_int thread)
 IsWithin (continued thread) = IsTrue (is_int thread)
 IsWithin (exited code) = IsTrue (is_exit_code code)
 IsWithin terminated = ⊤
+
+-- ---- what fits
+
+-- the event's message has at most so many bytes
+abbrev pub event_fits : ℕ → ℕ → AdapterEvent → Bool
+event_fits most seq event = nat_le (length (canon (event_message seq (event_name event) (event_body event)))) most
+
+-- what is said beside an event's own members: nothing where its message would be longer
+abbrev pub more_within : ℕ → ℕ → AdapterEvent → List Member → List Member
+more_within most seq event more = if event_fits most seq event then more else []
+
+-- the event as it is told
+abbrev pub event_within : ℕ → ℕ → AdapterEvent → AdapterEvent
+event_within most seq (output category text more) = output category text (more_within most seq (output category text more) more)
+event_within most seq (stopped reason thread more) = stopped reason thread (more_within most seq (stopped reason thread more) more)
+event_within most seq event = event
 
 -- ---- the laws
 
@@ -41,4 +58,4 @@ FixedResponsesAreShort = (seq request_seq : ℕ) (command : List ℕ) (body : Op
     → IsShort (success_response seq request_seq command (data_in body))
 
 abbrev pub EventsAreShort : Type 0
-EventsAreShort = (seq : ℕ) (event : AdapterEvent) → seq ≤ max_seq → IsWithin event → IsShort (event_message seq (event_name event) (event_body event))
+EventsAreShort = (seq : ℕ) (event : AdapterEvent) → seq ≤ max_seq → IsWithin event → IsShort (event_message seq (event_name event) (event_body (without_more event)))

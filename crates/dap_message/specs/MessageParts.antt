@@ -1,7 +1,8 @@
 -- Messages by their parts: failures, responses and events, which bodies have a fixed shape, and each event's name and body.
 -- Specification, "ErrorResponse", "InitializeResponse", "ContinueResponse" and "Events".
-use Rattle.std.specs.Prelude.{ℕ, ℤ, List, codes, ◌&&◌, Bool, false, true, Option, Some, None}
+use Rattle.std.specs.Prelude.{ℕ, ℤ, List, [], codes, ◌&&◌, Bool, false, true, Option, Some, None}
 use Rattle.serde_json.specs.Data.{Data}
+use Rattle.dap_json.specs.declared.more.Member.{Member}
 use Rattle.dap_command.specs.Numbers.{is_number, is_none_or}
 use Rattle.dap_body.specs.Failure.{row_of, failure_body}
 use Rattle.dap_body.specs.EventBody.{output_body, stopped_body, continued_body, exited_body}
@@ -38,24 +39,30 @@ has_fixed_shape _ = false
 
 pub data AdapterEvent : Type 0 where
   initialized : AdapterEvent
-  output : List ℕ → List ℕ → AdapterEvent
-  stopped : List ℕ → ℤ → AdapterEvent
+  output : List ℕ → List ℕ → List Member → AdapterEvent
+  stopped : List ℕ → ℤ → List Member → AdapterEvent
   continued : ℤ → AdapterEvent
   exited : ℤ → AdapterEvent
   terminated : AdapterEvent
 
 abbrev pub event_name : AdapterEvent → List ℕ
 event_name initialized = codes "initialized"
-event_name (output category text) = codes "output"
-event_name (stopped reason thread) = codes "stopped"
+event_name (output category text more) = codes "output"
+event_name (stopped reason thread more) = codes "stopped"
 event_name (continued thread) = codes "continued"
 event_name (exited code) = codes "exited"
 event_name terminated = codes "terminated"
 
 abbrev pub event_body : AdapterEvent → Option Data
 event_body initialized = None
-event_body (output category text) = Some (output_body category text)
-event_body (stopped reason thread) = Some (stopped_body reason thread)
+event_body (output category text more) = Some (output_body category text more)
+event_body (stopped reason thread more) = Some (stopped_body reason thread more)
 event_body (continued thread) = Some (continued_body thread)
 event_body (exited code) = Some (exited_body code)
 event_body terminated = None
+
+-- the event with no more beside it than its own members
+abbrev pub without_more : AdapterEvent → AdapterEvent
+without_more (output category text more) = output category text []
+without_more (stopped reason thread more) = stopped reason thread []
+without_more event = event

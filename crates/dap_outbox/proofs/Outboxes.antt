@@ -1,7 +1,8 @@
 -- A message more on an outbox, and that a client reads it.
-use Rattle.std.proofs.Common.{◌≡◌, ℕ, ◌+◌, ◌<◌, ◌≤◌, List, [], ◌∷◌, ◌++◌, true, Option, Some, None, length, take, drop, decimal, refl, sym, ap, ◌∙◌, subst, append_assoc, arith, length-append}
+use Rattle.std.proofs.Common.{◌≡◌, ℕ, ◌+◌, ◌<◌, ◌≤◌, List, [], ◌∷◌, ◌++◌, true, false, Option, Some, None, length, take, drop, decimal, refl, sym, ap, ◌∙◌, subst, append_assoc, arith, length-append}
 use Rattle.std.specs.List.{AllByRecursion}
 use Rattle.std.proofs.Math.Seq.{take-append_seam, drop-append_seam}
+use Rattle.std.proofs.lemmas.Bool.{le-leb}
 use Rattle.std.proofs.lemmas.List.{append-nil, drop-append-le}
 use Rattle.dap_json.specs.Field.{max_seq}
 use Rattle.dap_frame.specs.Written.{frame_of}
@@ -13,8 +14,8 @@ use Rattle.std.proofs.lemmas.Fmt.{length-decimal-le}
 use Rattle.dap_envelope.specs.Canon.{canon, tree_of, members_of, request_members}
 use Rattle.dap_call.specs.Terminal.{run_in_terminal, terminal_members}
 use Rattle.dap_message.proofs.Sizes.{length-compact_text}
-use Rattle.dap_message.specs.MessageParts.{failure_response, success_response, has_fixed_shape}
-use Rattle.dap_message.specs.Lengths.{max_fixed, FailuresAreShort, FixedResponsesAreShort}
+use Rattle.dap_message.specs.MessageParts.{failure_response, success_response, has_fixed_shape, AdapterEvent, output, stopped, event_name, without_more}
+use Rattle.dap_message.specs.Lengths.{max_fixed, FailuresAreShort, FixedResponsesAreShort, EventsAreShort, IsWithin, event_fits, event_within}
 use Rattle.dap_envelope.specs.Meaning.{Msg}
 use Rattle.dap_envelope.specs.ReadBack.{ReadsBack, AllReadBack}
 use Rattle.dap_envelope.specs.Refusals.{max_command}
@@ -131,3 +132,25 @@ framed items text after body end is t e =
     let front : take end text ≡ items = ap (λ n. take n text) is ∙ (ap (λ xs. take (length items) xs) t ∙ take-append_seam items body) in
     let rest : drop end text ≡ body = ap (λ n. drop n text) is ∙ (ap (λ xs. drop (length items) xs) t ∙ drop-append_seam items body) in
     e ∙ (ap (λ xs. xs ++ frame_of (drop end text)) front ∙ ap (λ xs. items ++ frame_of xs) rest)
+
+-- ---- an event with what is said beside it
+
+pub fits-within : (most seq : ℕ) (event : AdapterEvent) → event_fits most seq event ≡ true → event_within most seq event ≡ event
+fits-within most seq (output category text more) h = rw h refl
+fits-within most seq (stopped reason thread more) h = rw h refl
+fits-within most seq _ h = refl
+
+pub long-within : (most seq : ℕ) (event : AdapterEvent) → event_fits most seq event ≡ false → event_within most seq event ≡ without_more event
+long-within most seq (output category text more) h = rw h refl
+long-within most seq (stopped reason thread more) h = rw h refl
+long-within most seq _ h = refl
+
+same-name : (event : AdapterEvent) → event_name (without_more event) ≡ event_name event
+same-name (output category text more) = refl
+same-name (stopped reason thread more) = refl
+same-name _ = refl
+
+pub alone-fits : EventsAreShort → (most seq : ℕ) (event : AdapterEvent) → seq ≤ max_seq → max_fixed ≤ most → IsWithin event → event_fits most seq (without_more event) ≡ true
+alone-fits short most seq event small room within =
+    let fits = short seq event small within in
+    rw (same-name event) (le-leb _ _ (omega (arith, fits)))

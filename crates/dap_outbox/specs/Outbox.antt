@@ -3,7 +3,7 @@ use Rattle.std.specs.Prelude.{◌≡◌, ℕ, ◌+◌, ◌≤◌, List, [], ◌�
 use Rattle.dap_json.specs.Field.{max_seq}
 use Rattle.dap_message.specs.MessageParts.{AdapterEvent, initialized, output, stopped, continued, exited, terminated, success_response}
 use Rattle.dap_body.specs.Body.{data_in}
-use Rattle.dap_message.specs.Lengths.{max_fixed}
+use Rattle.dap_message.specs.Lengths.{max_fixed, event_fits, event_within}
 use Rattle.dap_envelope.specs.Canon.{canon}
 use Rattle.dap_envelope.specs.ReadBack.{AllReadBack}
 use Rattle.dap_body.specs.declared.body.Body.{Body}
@@ -43,8 +43,8 @@ answer_of (Failure f) = failure f
 
 abbrev pub event_of : Event → AdapterEvent
 event_of Initialized = initialized
-event_of (Output category text) = output (category_name category) text
-event_of (Stopped reason thread) = stopped reason thread
+event_of (Output category text more) = output (category_name category) text more
+event_of (Stopped reason thread more) = stopped reason thread more
 event_of (Continued thread) = continued thread
 event_of (Exited code) = exited code
 event_of Terminated = terminated
@@ -76,8 +76,9 @@ HoldsNone outbox numbers = (limit : ℕ) → max_fixed ≤ limit → numbers.las
 abbrev pub AppendsReply : OutboxState → OutboxState → Request → Answer → Type 0
 AppendsReply old new request answer = AppendsDraft max_fixed old new (reply request (answer_of answer))
 
-abbrev pub AppendsEvent : OutboxState → OutboxState → Event → Type 0
-AppendsEvent old new event = AppendsDraft max_fixed old new (emit (event_of event))
+-- an event, with what is said beside its own members where that fits
+abbrev pub AppendsEvent : ℕ → OutboxState → OutboxState → Event → Type 0
+AppendsEvent most old new event = AppendsDraft most old new (emit (event_within most (old.numbers.used + 1) (event_of event)))
 
 -- whether the answer to a request with a body has at most so many bytes
 abbrev pub answer_fits : ℕ → OutboxState → Request → Option Body → Bool
@@ -86,3 +87,7 @@ answer_fits most old request given = nat_le (length (canon (success_response (ol
 -- if it has, the request is answered so
 abbrev pub AnswersIfFits : ℕ → OutboxState → OutboxState → Request → Option Body → Bool → Type 0
 AnswersIfFits most old new request given fits = IsTrue fits → AppendsDraft most old new (reply request (success (data_in given) []))
+
+-- if an event with all that is said beside it has, it is told
+abbrev pub EmitsIfFits : ℕ → OutboxState → OutboxState → Event → Bool → Type 0
+EmitsIfFits most old new event fits = (fits ≡ event_fits most (old.numbers.used + 1) (event_of event)) × (IsTrue fits → AppendsDraft most old new (emit (event_of event)))

@@ -1,7 +1,8 @@
 //! A buffer that is lent, with messages of a step behind what it had before.
 ghost use Rattle.std.specs.Prelude.{◌≡◌, ◌+◌, ◌<◌, ◌≤◌, ◌++◌, length, IfOk, OnOk, OnErr, false};
 ghost use Rattle.dap_outbox.specs.Draft.{ask};
-ghost use Rattle.dap_outbox.specs.Outbox.{event_of, IsReady, AppendsDraft, HoldsNone, AppendsReply, AppendsEvent, answer_fits, AnswersIfFits};
+ghost use Rattle.dap_outbox.specs.Outbox.{event_of, IsReady, AppendsDraft, HoldsNone, AppendsReply, AppendsEvent, EmitsIfFits, answer_fits, AnswersIfFits};
+ghost use Rattle.dap_json.specs.Field.{max_seq};
 ghost use Rattle.dap_message.specs.Lengths.{max_fixed, IsWithin};
 
 use crate::answer::{Answer, Event};
@@ -9,6 +10,7 @@ use crate::texts::{append_reply, append_terminal, append_told};
 use dap_body::Body;
 use dap_frame::frame_from;
 use dap_message::append_answer;
+use dap_message::laws::fixed_messages_are_short;
 use dap_tables::{Entry, Seq};
 use std::alloc::{AllocError, Global};
 use std::marker::Model;
@@ -136,20 +138,49 @@ impl Outbox {
         Ok(true)
     }
 
-    /// Tells an event.
-    pub fn emit(&mut self, alloc: Global, event: Event) -> Result<(), AllocError>
-        requires left { self.old.numbers.used < self.old.numbers.last }
-        requires short { IsWithin (event_of event) }
-        ensures writes { OnOk result (AppendsEvent self.old self.new event) }
+    /// Tells an event with all that is said beside it, unless its message is longer than so many bytes: whether it was told.
+    fn emit_if_fits(
+        &mut self,
+        alloc: Global,
+        event: &Event,
+        most: usize,
+    ) -> Result<bool, AllocError>
+        requires { self.old.numbers.used < self.old.numbers.last }
+        ensures writes { IfOk result (EmitsIfFits most self.old self.new event.now) }
         ensures before { self.new.before ≡ self.old.before }
+        ensures too_long { IfOk result (λ ok. ok ≡ false → self.new ≡ self.old) }
         ensures err { OnErr result (self.new ≡ self.old) }
     {
         let (seq, numbers) = self.next();
         let end = self.buffer.len();
         append_told(alloc, &mut self.buffer, seq, event)?;
+        if self.buffer.len() - end > most {
+            self.buffer.truncate(end);
+            return Ok(false);
+        }
         frame_from(&mut self.buffer, end)?;
         self.numbers = numbers;
-        Ok(())
+        Ok(true)
+    }
+
+    /// Tells an event. What is said beside its own members is left out where its message would be longer than so many bytes.
+    pub fn emit(&mut self, alloc: Global, event: Event, most: usize) -> Result<(), AllocError>
+        requires left { self.old.numbers.used < self.old.numbers.last }
+        requires last { self.old.numbers.last ≤ max_seq }
+        requires short { IsWithin (event_of event) }
+        requires room { max_fixed ≤ most }
+        ensures writes { OnOk result (AppendsEvent most self.old self.new event) }
+        ensures before { self.new.before ≡ self.old.before }
+        ensures err { OnErr result (self.new ≡ self.old) }
+    {
+        fixed_messages_are_short();
+        if self.emit_if_fits(alloc, &event, most)? {
+            return Ok(());
+        }
+        if self.emit_if_fits(alloc, &event.alone(), most)? {
+            return Ok(());
+        }
+        unreachable!()
     }
 
     /// Asks for a terminal: the number of the request.

@@ -8,7 +8,8 @@ ghost use Rattle.dap_outbox.specs.Outbox.{answer_of, event_of, shape_of};
 ghost use Rattle.dap_json.specs.Field.{max_seq};
 ghost use Rattle.dap_json.specs.Writable.{is_plain_tree};
 ghost use Rattle.dap_message.specs.MessageParts.{event_name, event_body};
-ghost use Rattle.dap_message.specs.Lengths.{max_fixed, IsWithin};
+ghost use Rattle.dap_message.specs.Appending.{CanonIsRead};
+ghost use Rattle.dap_message.specs.Lengths.{max_fixed};
 ghost use Rattle.dap_envelope.specs.ReadBack.{ReadsBack};
 
 use crate::answer::{Answer, Event, Fixed};
@@ -73,13 +74,23 @@ fn event_body(event: &Event) -> Option<EventBody<'_>>
     match event {
         Event::Initialized => None,
         Event::Terminated => None,
-        Event::Output { category, text } => Some(EventBody::Output {
+        Event::Output {
+            category,
+            text,
+            more,
+        } => Some(EventBody::Output {
             category: category.name(),
             output: text,
+            more,
         }),
-        Event::Stopped { reason, thread } => Some(EventBody::Stopped {
+        Event::Stopped {
+            reason,
+            thread,
+            more,
+        } => Some(EventBody::Stopped {
             reason,
             thread_id: *thread,
+            more,
         }),
         Event::Continued { thread } => Some(EventBody::Continued { thread_id: *thread }),
         Event::Exited { code } => Some(EventBody::Exited { exit_code: *code }),
@@ -91,15 +102,13 @@ pub(crate) fn append_told(
     alloc: Global,
     out: &mut Vec<u8>,
     seq: u64,
-    event: Event,
+    event: &Event,
 ) -> Result<(), AllocError>
-    requires { IsWithin (event_of event) }
-    ensures canon { OnOk result (out.new.items ≡ out.old.items ++ canon (message_of seq (emit (event_of event)))) }
-    ensures reads_back { OnOk result (seq ≤ max_seq → ReadsBack max_fixed (message_of seq (emit (event_of event)))) }
+    ensures canon { OnOk result (out.new.items ≡ out.old.items ++ canon (message_of seq (emit (event_of event.now)))) }
+    ensures reads_back { OnOk result (seq ≤ max_seq → CanonIsRead (message_of seq (emit (event_of event.now)))) }
     ensures err { OnErr result (out.new.items ≡ out.old.items) }
 {
-    fixed_messages_are_short();
-    append_event(alloc, out, seq, event_name(&event), event_body(&event))
+    append_event(alloc, out, seq, event_name(event), event_body(event))
 }
 
 /// What the client's terminal is to run.

@@ -26,8 +26,8 @@ no_change-sound s = told-sound s (no_change s) (is-plain s _ refl refl refl) tt 
 after_happening-sound : (h : Happening) (s : Session) → asks_none s.phase ≡ true → IsSound (Unit {0}) s [] None (after_happening h s)
 unfolding after_happening
 after_happening-sound happening.Nothing s q = no_change-sound s
-after_happening-sound (happening.Output category text) s q = told-sound s _ (is-plain s _ refl refl refl) (refl, refl, tt) refl (walked-event _ (asks s.kept)) (asks-nothing s _ refl tt (λ suits. suits))
-after_happening-sound (happening.Stopped reason thread) s q = told-sound s _ (is-plain s _ refl refl refl) (refl, refl, tt) refl (walked-event _ (asks s.kept)) (asks-nothing s _ refl tt (none-in s.phase s.asked q))
+after_happening-sound (happening.Output category text more) s q = told-sound s _ (is-plain s _ refl refl refl) (refl, refl, tt) refl (walked-event _ (asks s.kept)) (asks-nothing s _ refl tt (λ suits. suits))
+after_happening-sound (happening.Stopped reason thread more) s q = told-sound s _ (is-plain s _ refl refl refl) (refl, refl, tt) refl (walked-event _ (asks s.kept)) (asks-nothing s _ refl tt (none-in s.phase s.asked q))
 after_happening-sound (happening.Continued thread) s q = told-sound s _ (is-plain s _ refl refl refl) (refl, refl, tt) refl (walked-event _ (asks s.kept)) (asks-nothing s _ refl tt (none-in s.phase s.asked q))
 after_happening-sound (happening.Exited code) s q =
     told-sound s _ (is-plain s _ refl refl refl) (refl, refl, (refl, refl, tt)) refl (walked-append _ _ (asks s.kept) (asks s.kept) (asks s.kept) (walked-event _ (asks s.kept)) (walked-event _ (asks s.kept))) (asks-nothing s _ refl tt (none-in s.phase s.asked q))

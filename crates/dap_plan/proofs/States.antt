@@ -90,8 +90,8 @@ taken-keeps first s seq (Other tag) plan e = nothing-keeps first s plan (cc)
 happening-keeps : (first : State) (s : Session) (h : Happening) (before : State) → IsStateOf first s.phase before → IsStateOf first (after_happening h s).after.phase (state_after before to_poll (happened h))
 unfolding after_happening
 happening-keeps first s happening.Nothing before h = h
-happening-keeps first s (happening.Output category text) before h = h
-happening-keeps first s (happening.Stopped reason thread) before h = refl
+happening-keeps first s (happening.Output category text more) before h = h
+happening-keeps first s (happening.Stopped reason thread more) before h = refl
 happening-keeps first s (happening.Continued thread) before h = refl
 happening-keeps first s (happening.Exited code) before h = refl
 

@@ -1,7 +1,8 @@
 -- What happened to the debuggee, told to the client.
--- Specification, "OutputEvent", "StoppedEvent", "ContinuedEvent", "ExitedEvent", "TerminatedEvent". That all threads stop and go on together is this profile's choice.
+-- Specification, "OutputEvent", "StoppedEvent", "ContinuedEvent", "ExitedEvent", "TerminatedEvent". That all threads stop and go on together, and what is left out where it does not fit, is this profile's choice.
 use Rattle.std.specs.Prelude.{◌+◌, [], ◌∷◌, ◌||◌, Bool, true, false, if◌then◌else◌}
-use Rattle.dap_message.specs.MessageParts.{output, stopped, continued, exited, terminated}
+use Rattle.dap_message.specs.Lengths.{event_within}
+use Rattle.dap_message.specs.MessageParts.{AdapterEvent, output, stopped, continued, exited, terminated}
 use Rattle.dap_debuggee.specs.Shown.{to_poll, Reply, done, refused, happened, category_name}
 use Rattle.dap_debuggee.specs.declared.answers.Happening.{Happening}
 use Rattle.dap_debuggee.specs.declared.answers.Happening.TheVariants as happening
@@ -13,10 +14,14 @@ use Rattle.dap_tables.specs.References.{without_references}
 use Rattle.dap_plan.specs.Session.{Session}
 use Rattle.dap_decision.specs.Table.{is_phase}
 
+-- an event with what is said beside its own members, where its message has at most as many bytes as a body may have
+abbrev pub told_by : Session → AdapterEvent → AdapterEvent
+told_by s event = event_within s.limits.body (s.used + 1) event
+
 unfoldable pub after_happening : Happening → Session → Made
 after_happening happening.Nothing s = no_change s
-after_happening (happening.Output category text) s = record { drafts = emit (output (category_name category) text) ∷ []; drops = false; after = record s { used = s.used + 1 } }
-after_happening (happening.Stopped reason thread) s = record { drafts = emit (stopped reason thread) ∷ []; drops = false; after = record s { phase = Stopped; used = s.used + 1 } }
+after_happening (happening.Output category text more) s = record { drafts = emit (told_by s (output (category_name category) text more)) ∷ []; drops = false; after = record s { used = s.used + 1 } }
+after_happening (happening.Stopped reason thread more) s = record { drafts = emit (told_by s (stopped reason thread more)) ∷ []; drops = false; after = record s { phase = Stopped; used = s.used + 1 } }
 after_happening (happening.Continued thread) s = record {
   drafts = emit (continued thread) ∷ [];
   drops = true;

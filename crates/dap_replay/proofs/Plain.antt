@@ -64,5 +64,5 @@ stop_same ms move none = told_at (slice_get ms move.to) move (λ m is. all_at (�
 pub plays_without_stops : PlaysWithoutStops
 plays_without_stops sources ms lines how i move none = (
   ap (λ n. move_to ms how i n (reason_of sources ms lines how i)) (target_same sources ms lines how i (depth_at i ms) none),
-  ap (λ (stop : OwnStop). happening.Stopped stop.reason (unwrap_or (option_map id_at (slice_get ms move.to)) (pos 0))) (stop_same ms move none),
+  ap (λ (stop : OwnStop). happening.Stopped stop.reason (unwrap_or (option_map id_at (slice_get ms move.to)) (pos 0)) []) (stop_same ms move none),
 )

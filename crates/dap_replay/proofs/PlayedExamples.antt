@@ -47,10 +47,10 @@ abbrev nothing : Reply
 nothing = happened happening.Nothing
 
 abbrev wrote : List ℕ → Reply
-wrote text = happened (happening.Output Stdout text)
+wrote text = happened (happening.Output Stdout text [])
 
 abbrev stopped : List ℕ → Reply
-stopped reason = happened (happening.Stopped reason (pos 1))
+stopped reason = happened (happening.Stopped reason (pos 1) [])
 
 -- started and stopped by entry
 abbrev begun : List Act

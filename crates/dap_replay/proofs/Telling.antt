@@ -102,7 +102,7 @@ ran_is v run runs is = ap (λ s. poll_result s v.run v) runs ∙ ap (λ r. poll_
 
 -- the view after a piece
 abbrev after_piece : List ℕ → List (List ℕ) → Run → Played → Played
-after_piece piece rest run v = with_ask to_poll (happened (Output Stdout piece)) (with_run (record { output = rest; move = run.move; paused = run.paused }) v)
+after_piece piece rest run v = with_ask to_poll (happened (Output Stdout piece [])) (with_run (record { output = rest; move = run.move; paused = run.paused }) v)
 
 abbrev less_of : Run → List (List ℕ) → Run
 less_of run rest = record { output = rest; move = run.move; paused = run.paused }
@@ -116,8 +116,8 @@ SameAfter ending k = (v : Played) (run : Run) (piece : List ℕ) (rest : List (L
 
 tell_by : (ending : ℕ → Run → Played → List Happening) (Goes : Move → Bool → Type 0) (k n : ℕ) (v : Played) (run : Run) (o : Option (List ℕ × List (List ℕ)))
     → Ends ending Goes k → SameAfter ending k → v.state ≡ Running → v.run ≡ Some run → Goes run.move run.paused → first_piece run.output ≡ o → Cut run.output o → length (joined_text run.output) ≤ suc n
-    → ((w : Played) (less : Run) → w.state ≡ Running → w.run ≡ Some less → Goes less.move less.paused → length (joined_text less.output) ≤ n → polls (length (first_pieces n less.output) + k) w ≡ map (λ text. Output Stdout text) (first_pieces n less.output) ++ ending k less w)
-    → polls (length (and_then (first_pieces n) o) + k) v ≡ map (λ text. Output Stdout text) (and_then (first_pieces n) o) ++ ending k run v
+    → ((w : Played) (less : Run) → w.state ≡ Running → w.run ≡ Some less → Goes less.move less.paused → length (joined_text less.output) ≤ n → polls (length (first_pieces n less.output) + k) w ≡ map (λ text. Output Stdout text []) (first_pieces n less.output) ++ ending k less w)
+    → polls (length (and_then (first_pieces n) o) + k) v ≡ map (λ text. Output Stdout text []) (and_then (first_pieces n) o) ++ ending k run v
 tell_by ending Goes k n v run None ends same runs is goes first cuts most later =
     let none : 0 + k ≡ k = omega arith in
     ap (λ j. polls j v) none ∙ ends v run runs is goes first
@@ -129,8 +129,8 @@ tell_by ending Goes k n v run (Some (piece, rest)) ends same runs is goes first 
     let one : suc (length (first_pieces n rest)) + k ≡ suc m = omega arith in
     ap (λ j. polls j v) one
     ∙ ap (happening_then (polls m)) (ran_is v run runs is ∙ ap (λ o. step_of_run run o v) first)
-    ∙ ap (λ hs. Output Stdout piece ∷ hs) (later (after_piece piece rest run v) (less_of run rest) runs refl goes (omega (arith, count, parts, some, most)))
-    ∙ ap (λ hs. Output Stdout piece ∷ (map (λ text. Output Stdout text) (first_pieces n rest) ++ hs)) (same v run piece rest)
+    ∙ ap (λ hs. Output Stdout piece [] ∷ hs) (later (after_piece piece rest run v) (less_of run rest) runs refl goes (omega (arith, count, parts, some, most)))
+    ∙ ap (λ hs. Output Stdout piece [] ∷ (map (λ text. Output Stdout text []) (first_pieces n rest) ++ hs)) (same v run piece rest)
 
 none_left : (texts : List (List ℕ)) (o : Option (List ℕ × List (List ℕ))) → first_piece texts ≡ o → Cut texts o → length (joined_text texts) ≤ 0 → first_piece texts ≡ None
 none_left texts None is cuts most = is
@@ -141,7 +141,7 @@ none_left texts (Some (piece, rest)) is cuts most =
     absurd (omega (arith, count, parts, some, most))
 
 tell : (ending : ℕ → Run → Played → List Happening) (Goes : Move → Bool → Type 0) (k n : ℕ) → Ends ending Goes k → SameAfter ending k → (v : Played) (run : Run) → v.state ≡ Running → v.run ≡ Some run → Goes run.move run.paused → length (joined_text run.output) ≤ n
-    → polls (length (first_pieces n run.output) + k) v ≡ map (λ text. Output Stdout text) (first_pieces n run.output) ++ ending k run v
+    → polls (length (first_pieces n run.output) + k) v ≡ map (λ text. Output Stdout text []) (first_pieces n run.output) ++ ending k run v
 tell ending Goes k zero ends same v run runs is goes most =
     let none : 0 + k ≡ k = omega arith in
     ap (λ j. polls j v) none ∙ ends v run runs is goes (none_left run.output (first_piece run.output) refl (cut run.output) most)

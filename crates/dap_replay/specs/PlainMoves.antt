@@ -30,7 +30,7 @@ plain_move_of sources moments lines how i = move_to moments how i (plain_target 
 
 -- a stop for the reason of the move, with the thread that stands there
 abbrev pub plain_stop_of : List Moment → Move → Happening
-plain_stop_of moments move = happening.Stopped (reason_text move.reason) (unwrap_or (option_map id_at (slice_get moments move.to)) (pos 0))
+plain_stop_of moments move = happening.Stopped (reason_text move.reason) (unwrap_or (option_map id_at (slice_get moments move.to)) (pos 0)) []
 
 -- Each move goes where it would go by those rules, and each stop is told by them.
 abbrev pub PlaysWithoutStops : Type 0

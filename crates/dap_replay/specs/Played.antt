@@ -140,7 +140,7 @@ after_assign holder name text v = with_changed (with_variables holder (with_text
 
 -- a stop at the end of a move, with the thread that stands there
 abbrev pub stop_of : List Moment → Move → Happening
-stop_of moments move = happening.Stopped (stop_at moments move).reason (unwrap_or (option_map id_at (slice_get moments move.to)) (pos 0))
+stop_of moments move = happening.Stopped (stop_at moments move).reason (unwrap_or (option_map id_at (slice_get moments move.to)) (pos 0)) []
 
 -- the end of a run, once all is written: held, stopped or gone
 abbrev pub end_of_run : Run → Played → Happening × Played
@@ -153,7 +153,7 @@ end_of_run run v =
 -- a piece of output, while there is one
 abbrev pub step_of_run : Run → Option (List ℕ × List (List ℕ)) → Played → Happening × Played
 step_of_run run None v = end_of_run run v
-step_of_run run (Some (piece, rest)) v = (happening.Output Stdout piece, with_run (record { output = rest; move = run.move; paused = run.paused }) v)
+step_of_run run (Some (piece, rest)) v = (happening.Output Stdout piece [], with_run (record { output = rest; move = run.move; paused = run.paused }) v)
 
 abbrev pub poll_result : State → Option Run → Played → Happening × Played
 poll_result Running (Some run) v = step_of_run run (first_piece run.output) v

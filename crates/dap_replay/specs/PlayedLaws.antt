@@ -33,8 +33,8 @@ data Row (v : Played) : Act → Reply → Played → Type 0 where
   does_not_pause : Row v to_pause refused v
   gives_nothing : Row v to_poll (happened happening.Nothing) v
   holds : (run : Run) → Row v to_poll (happened happening.Nothing) (with_run run v)
-  tells : (piece : List ℕ) (run : Run) → v.state ≡ Running → Row v to_poll (happened (happening.Output Stdout piece)) (with_run run v)
-  stops : (reason : List ℕ) (thread : ℤ) (at : ℕ) → v.state ≡ Running → Row v to_poll (happened (happening.Stopped reason thread)) (at_rest Stopped at v)
+  tells : (piece : List ℕ) (run : Run) → v.state ≡ Running → Row v to_poll (happened (happening.Output Stdout piece [])) (with_run run v)
+  stops : (reason : List ℕ) (thread : ℤ) (at : ℕ) → v.state ≡ Running → Row v to_poll (happened (happening.Stopped reason thread [])) (at_rest Stopped at v)
   exits : (code : ℤ) → v.state ≡ Running → Row v to_poll (happened (happening.Exited code)) (at_rest Gone v.at v)
   sets : (source : SourceKey) (lines : List ℕ) → Row v (to_set_breakpoints source lines) done (with_lines (with_source_lines source lines v.set) v)
   assigns : (holder : ℕ) (name text : List ℕ) → Row v (to_assign holder name text) done (after_assign holder name text v)
@@ -165,13 +165,13 @@ same_nothing Running = refl
 same_nothing Stopped = refl
 same_nothing Gone = refl
 
-same_output : (s : State) (piece : List ℕ) → s ≡ state_after s to_poll (happened (happening.Output Stdout piece))
+same_output : (s : State) (piece : List ℕ) → s ≡ state_after s to_poll (happened (happening.Output Stdout piece []))
 same_output NotStarted piece = refl
 same_output Running piece = refl
 same_output Stopped piece = refl
 same_output Gone piece = refl
 
-stop_state : (s : State) (reason : List ℕ) (thread : ℤ) → Stopped ≡ state_after s to_poll (happened (happening.Stopped reason thread))
+stop_state : (s : State) (reason : List ℕ) (thread : ℤ) → Stopped ≡ state_after s to_poll (happened (happening.Stopped reason thread []))
 stop_state NotStarted reason thread = refl
 stop_state Running reason thread = refl
 stop_state Stopped reason thread = refl

@@ -42,7 +42,7 @@ nothings zero = []
 nothings (suc n) = Nothing ∷ nothings n
 
 abbrev pub output_happenings : List (List ℕ) → List Happening
-output_happenings texts = map (λ text. Output Stdout text) (pieces texts)
+output_happenings texts = map (λ text. Output Stdout text []) (pieces texts)
 
 -- ---- laws
 

@@ -40,7 +40,7 @@ output_in moments i = unwrap_or (option_map (λ m. m.output) (slice_get moments 
 
 abbrev pub happening_of_poll : Recording → LastPoll → Happening
 happening_of_poll r given.Nothing = happening.Nothing
-happening_of_poll r (given.Output moment from to) = happening.Output Stdout (take (to - from) (drop from (output_in r.moments moment)))
+happening_of_poll r (given.Output moment from to) = happening.Output Stdout (take (to - from) (drop from (output_in r.moments moment))) []
 happening_of_poll r (given.Stopped by) = stop_of r.moments by
 happening_of_poll r given.Exited = happening.Exited r.exit
 

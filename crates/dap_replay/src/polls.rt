@@ -5,7 +5,7 @@ ghost use Rattle.std.specs.Prelude.{◌≡◌};
 use crate::recorded::{Going, LastAsked, LastPoll, Recorded};
 use crate::{moves, run};
 use dap_debuggee::{Category, Happening, State};
-use dap_json::Text;
+use dap_json::{More, Text};
 use std::alloc::{AllocError, Global};
 
 impl Recorded {
@@ -40,7 +40,11 @@ impl Recorded {
         let reason = Text::copied(alloc, moves::reason_told(to, moment))?;
         self.rest(State::Stopped, to.to);
         self.note(LastAsked::Polled(LastPoll::Stopped { by: to }));
-        Ok(Happening::Stopped { reason, thread })
+        Ok(Happening::Stopped {
+            reason,
+            thread,
+            more: More::none(),
+        })
     }
 
     pub(crate) fn to_poll(&mut self, alloc: Global) -> Result<Happening, AllocError>
@@ -82,6 +86,7 @@ impl Recorded {
         Ok(Happening::Output {
             category: Category::Stdout,
             text,
+            more: More::none(),
         })
     }
 }

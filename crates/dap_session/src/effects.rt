@@ -2,7 +2,7 @@
 ghost use Rattle.std.specs.Prelude.{◌≡◌, ◌+◌, ◌≤◌, ◌<◌, [], ◌∷◌, IfOk, OnErr, IsTrue, None, Some, true, OnOk};
 ghost use Rattle.dap_plan.specs.Session.{numbers_of};
 ghost use Rattle.dap_body.specs.Body.{data_in};
-ghost use Rattle.dap_message.specs.Lengths.{IsWithin};
+ghost use Rattle.dap_message.specs.Lengths.{IsWithin, event_within};
 ghost use Rattle.dap_call.specs.declared.call.Call.{Call};
 ghost use Rattle.dap_tables.specs.Outstanding.{contains_seq};
 ghost use Rattle.dap_debuggee.specs.Shown.{to_start, to_resume, to_pause, to_end};
@@ -139,11 +139,11 @@ impl<D: Debuggee + Drop> Session<D> {
         requires room { self.now.session.used + 2 ≤ self.now.session.limits.seq }
         requires short { IsWithin (event_of event) }
         ensures last { OnOk result (out.new.numbers.last ≡ self.now.session.limits.seq) }
-        ensures holds { OnOk result (Holds out.new self.now.session.limits.body self.now.session.used (reply request.now (answer_of answer) ∷ emit (event_of event) ∷ [])) }
+        ensures holds { OnOk result (Holds out.new self.now.session.limits.body self.now.session.used (reply request.now (answer_of answer) ∷ emit (event_within self.now.session.limits.body (self.now.session.used + 2) (event_of event)) ∷ [])) }
         ensures before { out.new.before ≡ out.old.before }
     {
         self.one(alloc, out, request, answer)?;
-        out.emit(alloc, event)
+        out.emit(alloc, event, self.limits().body())
     }
 
     /// Answers one request.

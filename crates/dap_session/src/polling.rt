@@ -2,11 +2,11 @@
 ghost use Rattle.dap_session.specs.SessionCalls.{AddsPoll, LeavesSession, PollsNobody, RefusesPoll};
 ghost use Rattle.std.specs.Prelude.{◌≡◌, ◌+◌, ◌≤◌, ◌<◌, [], ◌∷◌, length, IfErr, OnOk, OnErr, IsTrue, false};
 ghost use Rattle.dap_plan.specs.Session.{numbers_of};
-ghost use Rattle.dap_message.specs.Lengths.{IsWithin};
+ghost use Rattle.dap_message.specs.Lengths.{IsWithin, event_within};
 ghost use Rattle.dap_debuggee.specs.Laws.{is_short};
 ghost use Rattle.dap_plan.specs.SessionState.{MadeBy, Carries, LacksRoom, IsRefusedPoll, AppendsSome};
 ghost use Rattle.dap_outbox.specs.Draft.{emit};
-ghost use Rattle.dap_plan.specs.Polling.{after_happening, after_poll_reply, has_debuggee};
+ghost use Rattle.dap_plan.specs.Polling.{after_happening, after_poll_reply, has_debuggee, told_by};
 ghost use Rattle.dap_debuggee.specs.Shown.{to_poll};
 ghost use Rattle.dap_plan.specs.Plan.{asking};
 ghost use Rattle.dap_outbox.specs.Outbox.{Holds, event_of, IsReady};
@@ -42,11 +42,11 @@ impl<D: Debuggee + Drop> Session<D> {
         requires room { self.now.session.used + 1 ≤ self.now.session.limits.seq }
         requires short { IsWithin (event_of event) }
         ensures last { OnOk result (out.new.numbers.last ≡ self.now.session.limits.seq) }
-        ensures holds { OnOk result (Holds out.new self.now.session.limits.body self.now.session.used (emit (event_of event) ∷ [])) }
+        ensures holds { OnOk result (Holds out.new self.now.session.limits.body self.now.session.used (emit (told_by self.now.session (event_of event)) ∷ [])) }
         ensures before { out.new.before ≡ out.old.before }
     {
         self.begin(out);
-        out.emit(alloc, event)
+        out.emit(alloc, event, self.limits().body())
     }
 
     /// Writes two events.
@@ -62,11 +62,11 @@ impl<D: Debuggee + Drop> Session<D> {
         requires first_short { IsWithin (event_of first) }
         requires second_short { IsWithin (event_of second) }
         ensures last { OnOk result (out.new.numbers.last ≡ self.now.session.limits.seq) }
-        ensures holds { OnOk result (Holds out.new self.now.session.limits.body self.now.session.used (emit (event_of first) ∷ emit (event_of second) ∷ [])) }
+        ensures holds { OnOk result (Holds out.new self.now.session.limits.body self.now.session.used (emit (told_by self.now.session (event_of first)) ∷ emit (event_within self.now.session.limits.body (self.now.session.used + 2) (event_of second)) ∷ [])) }
         ensures before { out.new.before ≡ out.old.before }
     {
         self.event(alloc, out, first)?;
-        out.emit(alloc, second)
+        out.emit(alloc, second, self.limits().body())
     }
 
     /// Tells what happened.
@@ -90,15 +90,33 @@ impl<D: Debuggee + Drop> Session<D> {
         let _ = &self.queries;
         match happening {
             Happening::Nothing => Ok(()),
-            Happening::Output { category, text } => {
+            Happening::Output {
+                category,
+                text,
+                more,
+            } => {
                 self.room(1)?;
-                self.event(alloc, out, Event::Output { category, text })?;
+                let event = Event::Output {
+                    category,
+                    text,
+                    more,
+                };
+                self.event(alloc, out, event)?;
                 self.spend(out);
                 Ok(())
             }
-            Happening::Stopped { reason, thread } => {
+            Happening::Stopped {
+                reason,
+                thread,
+                more,
+            } => {
                 self.room(1)?;
-                self.event(alloc, out, Event::Stopped { reason, thread })?;
+                let event = Event::Stopped {
+                    reason,
+                    thread,
+                    more,
+                };
+                self.event(alloc, out, event)?;
                 self.spend(out);
                 self.set_phase(Phase::Stopped);
                 Ok(())

@@ -42,8 +42,8 @@ running-calm : (r : Reply) → IsTrue (may_answer state.Running to_poll r) → m
 running-calm done m = refl
 running-calm refused m = refl
 running-calm (happened happening.Nothing) m = refl
-running-calm (happened (happening.Output category text)) m = refl
-running-calm (happened (happening.Stopped reason thread)) m = refl
+running-calm (happened (happening.Output category text more)) m = refl
+running-calm (happened (happening.Stopped reason thread more)) m = refl
 running-calm (happened (happening.Continued thread)) m = absurd (true≢false (sym m))
 running-calm (happened (happening.Exited code)) m = refl
 
@@ -51,8 +51,8 @@ stopped-calm : (r : Reply) → IsTrue (may_answer state.Stopped to_poll r) → e
 stopped-calm done m e = refl
 stopped-calm refused m e = refl
 stopped-calm (happened happening.Nothing) m e = refl
-stopped-calm (happened (happening.Output category text)) m e = refl
-stopped-calm (happened (happening.Stopped reason thread)) m e = absurd (true≢false (sym m))
+stopped-calm (happened (happening.Output category text more)) m e = refl
+stopped-calm (happened (happening.Stopped reason thread more)) m e = absurd (true≢false (sym m))
 stopped-calm (happened (happening.Continued thread)) m e = absurd (true≢false e)
 stopped-calm (happened (happening.Exited code)) m e = absurd (true≢false e)
 

@@ -55,7 +55,7 @@ content = (refl, refl, refl)
 
 -- ---- what is told
 
-told : (happening_of news.Nothing ≡ happening.Nothing) × (happening_of (news.Stopped Step) ≡ happening.Stopped (codes "step") (pos 1)) × (happening_of news.TooDeep ≡ happening.Exited (pos 1))
+told : (happening_of news.Nothing ≡ happening.Nothing) × (happening_of (news.Stopped Step) ≡ happening.Stopped (codes "step") (pos 1) []) × (happening_of news.TooDeep ≡ happening.Exited (pos 1))
 told = (refl, refl, refl)
 
 ranges : (is_short (happening_of (news.Stopped Breakpoint)) ≡ true) × (is_short (happening_of news.Finished) ≡ true)

@@ -27,8 +27,8 @@ reason_text Pause = codes "pause"
 -- a value is printed as a line of its own
 abbrev pub happening_of : News → Happening
 happening_of news.Nothing = happening.Nothing
-happening_of (news.Printed value) = happening.Output Stdout (decimal value ++ 10 ∷ [])
-happening_of (news.Stopped reason) = happening.Stopped (reason_text reason) (pos 1)
+happening_of (news.Printed value) = happening.Output Stdout (decimal value ++ 10 ∷ []) []
+happening_of (news.Stopped reason) = happening.Stopped (reason_text reason) (pos 1) []
 happening_of news.Finished = happening.Exited (pos 0)
 happening_of news.TooDeep = happening.Exited (pos 1)
 

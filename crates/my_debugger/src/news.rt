@@ -4,7 +4,7 @@ ghost use Rattle.dap_debuggee.specs.Laws.{is_short};
 ghost use Rattle.my_debugger.specs.ToyActs.{reason_text, happening_of, state_by};
 
 use dap_debuggee::{Asked, Category, Happening, State};
-use dap_json::Text;
+use dap_json::{More, Text};
 use std::alloc::{AllocError, Global};
 
 /// Why a program stopped.
@@ -71,10 +71,12 @@ impl News {
             News::Printed(value) => Ok(Happening::Output {
                 category: Category::Stdout,
                 text: Text::new(format!(in alloc; "{value}\n")?),
+                more: More::none(),
             }),
             News::Stopped(reason) => Ok(Happening::Stopped {
                 reason: Text::copied(alloc, reason.name())?,
                 thread: 1,
+                more: More::none(),
             }),
             News::Finished => Ok(Happening::Exited { code: 0 }),
             News::TooDeep => Ok(Happening::Exited { code: 1 }),

@@ -101,8 +101,10 @@ fn add_happening<D: Debuggee>(
 ) -> bool {
     match happening {
         Happening::Nothing => told.push_str("nothing").is_ok(),
-        Happening::Output { category, text } => add_output(told, category.name(), text.as_str()),
-        Happening::Stopped { reason, thread } => {
+        Happening::Output { category, text, .. } => {
+            add_output(told, category.name(), text.as_str())
+        }
+        Happening::Stopped { reason, thread, .. } => {
             add_stop(alloc, debuggee, reason.as_str(), *thread, told)
         }
         Happening::Continued { thread } => add_number(told, "continued", *thread),

@@ -158,7 +158,7 @@ fn sources_body(alloc: Global) -> Result<Value, AllocError> {
 
 fn output_body(alloc: Global) -> Result<Value, AllocError> {
     let (category, output) = two(alloc, "stdout", "go\n")?;
-    body_output(alloc, category, output)
+    body_output(alloc, category, output, More::none())
 }
 
 /// What an adapter offers that serves each command.
@@ -189,7 +189,7 @@ fn body(alloc: Global, place: usize) -> Result<Value, AllocError> {
         6 => body_source(alloc, Text::copied(alloc, "one\n")?),
         7 => sources_body(alloc),
         8 => output_body(alloc),
-        9 => body_stopped(alloc, Text::copied(alloc, "step")?, 1),
+        9 => body_stopped(alloc, Text::copied(alloc, "step")?, 1, More::none()),
         10 => body_set_variable(alloc, Text::copied(alloc, "9")?),
         11 => body_continue(alloc),
         12 => Body::Initialize { capabilities: ALL }.value(alloc),

@@ -14,7 +14,7 @@ pub(crate) static RECORDING: &[u8; 301] =
 fn is_due(happening: &Happening, wanted: &str) -> bool {
     match happening {
         Happening::Output { text, .. } => text.as_str() == wanted,
-        Happening::Stopped { reason, thread } => reason.as_str() == wanted && *thread == 1,
+        Happening::Stopped { reason, thread, .. } => reason.as_str() == wanted && *thread == 1,
         _ => false,
     }
 }

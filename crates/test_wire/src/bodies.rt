@@ -8,7 +8,7 @@ use dap_body::{
     body_source, body_stack_trace, body_stopped, body_terminal, body_threads, body_variables,
 };
 use dap_command::Key;
-use dap_json::Text;
+use dap_json::{More, Text};
 use serde_json::Value;
 use std::alloc::{AllocError, Global};
 
@@ -307,14 +307,14 @@ enum Event {
 
 fn output(alloc: Global, category: &str, output: &str) -> Result<Value, AllocError> {
     let category = Text::copied(alloc, category)?;
-    body_output(alloc, category, Text::copied(alloc, output)?)
+    body_output(alloc, category, Text::copied(alloc, output)?, More::none())
 }
 
 fn built_event(alloc: Global, of: Event) -> Result<Value, AllocError> {
     match of {
         Event::Output(category, text) => output(alloc, category, text),
         Event::Stopped(reason, thread) => {
-            body_stopped(alloc, Text::copied(alloc, reason)?, thread)
+            body_stopped(alloc, Text::copied(alloc, reason)?, thread, More::none())
         }
         Event::Continued(thread) => body_continued(alloc, thread),
         Event::Exited(code) => body_exited(alloc, code),
