@@ -3,7 +3,7 @@
 use Rattle.std.specs.Prelude.{◌≡◌, ◌⊎◌, ℕ, zero, suc, ℤ, List, [], ◌++◌, length, take, Bool, false, Option, Some, None, Result, Ok, Err, is_some, option_and_then, if◌then◌else◌}
 use Rattle.dap_json.specs.declared.more.Member.{Member}
 use Rattle.dap_debuggee.specs.declared.answers.Category.{Category}
-use Rattle.dap_debuggee.specs.declared.answers.Category.TheVariants.{Console, Stdout, Stderr}
+use Rattle.dap_debuggee.specs.declared.answers.Category.TheVariants.{Console, Important, Stdout, Stderr, Telemetry}
 use Rattle.dap_debuggee.specs.declared.answers.Variable.{Variable}
 use Rattle.dap_envelope.specs.declared.message.Message.{Message}
 use Rattle.serde_json.specs.Data.{Data}
@@ -161,7 +161,9 @@ pub record IsUntold (old new : HeldAdapter) (code : ℕ) : Type 0 where
 abbrev pub category_of : ℕ → Category
 category_of zero = Console
 category_of (suc zero) = Stdout
-category_of (suc (suc n)) = Stderr
+category_of (suc (suc zero)) = Stderr
+category_of (suc (suc (suc zero))) = Important
+category_of (suc (suc (suc (suc n)))) = Telemetry
 
 abbrev pub if_read : {A B : Type 0} → Result A B → Option A
 if_read (Ok x) = Some x
@@ -171,11 +173,11 @@ if_read (Err e) = None
 abbrev pub moment_over : List RecordedSource → Option Data → Option MomentAlone
 moment_over sources json = option_and_then (λ tree. if_read (read_moment sources tree)) json
 
--- a stop at a moment over the sources
-pub record IsStop (sources : List RecordedSource) (reason : List ℕ) (thread : ℤ) (shows : Option Data) (later : Bool) (told : Coming) : Type 0 where
+-- a stop at a moment over the sources, with what is said beside it
+pub record IsStop (sources : List RecordedSource) (reason : List ℕ) (thread : ℤ) (shows : Option Data) (later : Bool) (more : List Member) (told : Coming) : Type 0 where
   pub moment : MomentAlone
   pub shown : moment_over sources shows ≡ Some moment
-  pub is : told ≡ said.Stopped reason thread moment later []
+  pub is : told ≡ said.Stopped reason thread moment later more
 
 -- the sources of a file
 pub record AreSources (json : Option Data) (told : Coming) : Type 0 where

@@ -124,15 +124,25 @@ LatchesAndTells code found old new =
 abbrev pub TellsWhere : (Coming → Type 0) → ℕ → YtFound → HeldAdapter → HeldAdapter → Type 0
 TellsWhere P code found old new = (given : Result Coming ℕ) × IfOk given (λ told. P told) × Tells given old new code found
 
-abbrev pub Outputs : ℕ → List ℕ → ℕ → YtFound → HeldAdapter → HeldAdapter → Type 0
-Outputs category output code found old new = TellsWhere (λ told. told ≡ said.Output (category_of category) output []) code found old new
+-- output, with what is said beside it
+abbrev pub OutputsWith : ℕ → List ℕ → List ℕ → ℕ → YtFound → HeldAdapter → HeldAdapter → Type 0
+OutputsWith category output more code found old new =
+    TellsWhere (λ told. CanBeSaid more × (told ≡ said.Output (category_of category) output (unwrap_or (said_by more) []))) code found old new
 
--- there are three categories, from 0 on
+abbrev pub Outputs : ℕ → List ℕ → ℕ → YtFound → HeldAdapter → HeldAdapter → Type 0
+Outputs category output code found old new = OutputsWith category output [] code found old new
+
+-- there are five categories, from 0 on
 abbrev pub RefusesUnknown : ℕ → ℕ → HeldAdapter → HeldAdapter → Type 0
-RefusesUnknown category code old new = 2 < category → code ≡ 103
+RefusesUnknown category code old new = 4 < category → code ≡ 103
+
+-- a stop, with what is said beside it
+abbrev pub TellsStopWith : List ℕ → ℤ → List ℕ → Bool → List ℕ → ℕ → YtFound → HeldAdapter → HeldAdapter → Type 0
+TellsStopWith reason thread shows later more code found old new =
+    TellsWhere (λ told. CanBeSaid more × IsStop old.adapter.debuggee.sources reason thread (json_of shows) later (unwrap_or (said_by more) []) told) code found old new
 
 abbrev pub TellsStop : List ℕ → ℤ → List ℕ → Bool → ℕ → YtFound → HeldAdapter → HeldAdapter → Type 0
-TellsStop reason thread shows later code found old new = TellsWhere (IsStop old.adapter.debuggee.sources reason thread (json_of shows) later) code found old new
+TellsStop reason thread shows later code found old new = TellsStopWith reason thread shows later [] code found old new
 
 -- with the code 107 what is to be shown is no moment over the debuggee's sources
 abbrev pub ShowsNoMoment : List ℕ → ℕ → HeldAdapter → HeldAdapter → Type 0

@@ -1,13 +1,15 @@
 //! What a host says beside a variable or a value: the members of a JSON object.
-ghost use Rattle.std.specs.Prelude.{◌≡◌, ◌≢◌, [], IfOk, IfErr, Some, None, if◌then◌else◌, unwrap_or};
+ghost use Rattle.std.specs.Prelude.{◌≡◌, ◌≢◌, ◌≤◌, [], IfOk, IfErr, IsUtf8, Some, None, if◌then◌else◌, unwrap_or};
 ghost use Rattle.dap_live.specs.declared.mail.Coming.TheVariants as said;
 ghost use Rattle.dap_c_adapter.specs.AdapterCalls.{IsCodeOfText, KeepsActs};
 ghost use Rattle.dap_c_adapter.specs.AdapterBehind.{IsFull, IsEmpty, FromTo, FromEmpty};
-ghost use Rattle.dap_c_adapter.specs.AdapterExports.{KeepsLimits, KeepsFrame, KeepsAllElse, KeepsGathered, LeavesBytes, TellsLearnedWith, LatchesUnlessText, StaysOpenApart, AcceptsText, GathersWith};
+ghost use Rattle.dap_c_adapter.specs.AdapterExports.{KeepsLimits, KeepsFrame, KeepsAllElse, KeepsGathered, LeavesBytes, OutputsWith, RefusesUnknown, TellsLearnedWith, LatchesUnlessText, StaysOpenApart, AcceptsText, GathersWith};
 ghost use Rattle.dap_c_adapter.specs.Beside.{CanBeSaid, CanBeTold, said_by};
 
 use crate::adapter_handle::YtAdapter;
-use crate::telling::{holder_given, keep_variable, tell_handle, value_given, variable_given};
+use crate::telling::{
+    holder_given, keep_variable, output_given, tell_handle, value_given, variable_given,
+};
 use dap_c_parts::codes::*;
 use dap_c_parts::found::YtFound;
 use dap_debuggee::Variable;
@@ -17,7 +19,7 @@ use dap_slot::{handle_of, take_out};
 use std::alloc::Global;
 
 /// What is said; `None` where there are no bytes.
-fn said_given(alloc: Global, bytes: &[u8]) -> Result<Option<More>, u32>
+pub(crate) fn said_given(alloc: Global, bytes: &[u8]) -> Result<Option<More>, u32>
     ensures said { IfOk result (λ said. said ≡ said_by bytes.now) }
     ensures can { IfOk result (λ said. CanBeSaid bytes.now) }
     ensures wanted { CanBeSaid bytes.now → IfErr result (λ code. code ≡ YT_NO_MEMORY) }
@@ -73,6 +75,35 @@ fn variable_with(
     let said = said_given(alloc, more)?;
     let more = said.unwrap_or(More::none());
     variable_given(alloc, name, value, holder, more)
+}
+
+/// As `yt_adapter_output`, with what is said beside it, such as `{"group":"start"}`: a JSON object, as of
+/// `yt_adapter_learned_with`. It is left out where the event would be longer than a body may be.
+#[unsafe(no_mangle)]
+pub extern "C" fn yt_adapter_output_with(
+    alloc: Global,
+    adapter: &mut YtAdapter,
+    category: u32,
+    output: &[u8],
+    more: &[u8],
+    found: &mut YtFound,
+) -> u32
+    ensures none { FromEmpty adapter.old adapter.new (result ≡ YT_NONE) (found.new ≡ found.old) }
+    ensures held { IsFull adapter.old → IsFull adapter.new }
+    ensures tells { FromTo adapter.old adapter.new (OutputsWith category output.now more.now result found.new) }
+    ensures latched { FromTo adapter.old adapter.new (LatchesUnlessText result) }
+    ensures apart { FromTo adapter.old adapter.new StaysOpenApart }
+    ensures length { FromTo adapter.old adapter.new (LeavesBytes found.new.bytes) }
+    ensures wanted { category ≤ 4 → IsUtf8 output.now → CanBeSaid more.now → AcceptsText result }
+    ensures unknown { FromTo adapter.old adapter.new (RefusesUnknown category result) }
+    ensures no_recording { result ≢ YT_BAD_RECORDING }
+    ensures limits { FromTo adapter.old adapter.new KeepsLimits }
+    ensures frame { FromTo adapter.old adapter.new KeepsFrame }
+    ensures acts { FromTo adapter.old adapter.new KeepsActs }
+    ensures gathered { FromTo adapter.old adapter.new (λ a b. b.variables ≡ a.variables) }
+{
+    let coming = output_given(alloc, category, output, more);
+    tell_handle(alloc, adapter, coming, found)
 }
 
 /// As `yt_adapter_learned`, with what is said beside the value: a JSON object, such as `{"type":"int"}`, without floats and

@@ -3,19 +3,21 @@
 //! What does not happen in the state that the debuggee is in, or is out of its range, is dropped, and the code says why. What
 //! is told is in the debuggee's mail for one poll (`Tells`); what is shown then is what the host told. Only the adapter behind
 //! the handle and what the caller lends for an answer are touched.
-ghost use Rattle.std.specs.Prelude.{◌≡◌, ◌⊎◌, ◌≤◌, ◌<◌, ◌++◌, ◌∷◌, IfOk, IfErr, IfSome, IsSome, IsOk, IsUtf8, Some, None, Ok, Err, false, [], length, if◌then◌else◌, ◌≢◌};
+ghost use Rattle.std.specs.Prelude.{◌≡◌, ◌⊎◌, ◌≤◌, ◌<◌, ◌++◌, ◌∷◌, IfOk, IfErr, IfSome, IsSome, IsOk, IsUtf8, Some, None, Ok, Err, false, [], length, if◌then◌else◌, ◌≢◌, unwrap_or};
 ghost use Rattle.dap_json.specs.Read.{json_of};
 ghost use Rattle.dap_recording.specs.Reading.{file_sources};
 ghost use Rattle.dap_plan.specs.Polling.{has_debuggee};
 ghost use Rattle.dap_plan.specs.declared.fault.AdapterFault.{AdapterFault as TheFault};
 ghost use Rattle.dap_c_adapter.specs.AdapterCalls.{AdapterSaw, RefusesPoll, Tells, moment_over, IsStop, AreSources, IsCodeOfText, IsCodeOfRecording, IsToldCode, HasNoSources, KeepsActs, category_of, mail_number, variable_told};
+ghost use Rattle.dap_c_adapter.specs.Beside.{CanBeSaid, said_by};
 ghost use Rattle.dap_c_adapter.specs.AdapterFaults.{adapter_number, IsAdapterFaultFound};
 ghost use Rattle.dap_live.specs.declared.mail.Coming.TheVariants as said;
 ghost use Rattle.dap_c_adapter.specs.AdapterBehind.{IsFull, IsEmpty, FromTo, FromEmpty};
-ghost use Rattle.dap_c_adapter.specs.AdapterExports.{KeepsLimits, KeepsFrame, KeepsAllElse, KeepsGathered, LeavesBytes, LatchesAndTells, Outputs, RefusesUnknown, TellsStop, ShowsNoMoment, TellsLearned, TellsSources, TellsGoingOn, TellsExit, TellsVariables, LatchesUnlessText, StaysOpenApart, AcceptsText, Gathers};
+ghost use Rattle.dap_c_adapter.specs.AdapterExports.{KeepsLimits, KeepsFrame, KeepsAllElse, KeepsGathered, LeavesBytes, LatchesAndTells, Outputs, RefusesUnknown, TellsStop, TellsStopWith, ShowsNoMoment, TellsLearned, TellsSources, TellsGoingOn, TellsExit, TellsVariables, LatchesUnlessText, StaysOpenApart, AcceptsText, Gathers};
 
 use crate::adapter::{adapter_code, adapter_fault_found, only_bytes};
 use crate::adapter_handle::YtAdapter;
+use crate::beside::said_given;
 use crate::held_adapter::HeldAdapter;
 use dap_c_parts::codes::*;
 use dap_c_parts::found::YtFound;
@@ -203,24 +205,43 @@ pub(crate) fn sources_given(alloc: Global, bytes: &[u8]) -> Result<Sources, u32>
     }
 }
 
-fn output_given(alloc: Global, category: u32, output: &[u8]) -> Result<Coming, u32>
-    ensures said { IfOk result (λ told. told ≡ said.Output (category_of category) output.now []) }
-    ensures wanted { category ≤ 2 → IsUtf8 output.now → IfErr result (λ code. code ≡ YT_NO_MEMORY) }
-    ensures unknown { 2 < category → result ≡ Err YT_BAD_ARGUMENTS }
+/// A category by its number.
+fn category_given(category: u32) -> Result<Category, u32>
+    ensures known { IfOk result (λ named. named ≡ category_of category) }
+    ensures wanted { category ≤ 4 → IsOk result }
+    ensures unknown { 4 < category → result ≡ Err YT_BAD_ARGUMENTS }
+    ensures code { IfErr result (λ code. code ≡ YT_BAD_ARGUMENTS) }
+{
+    match category {
+        0 => Ok(Category::Console),
+        1 => Ok(Category::Stdout),
+        2 => Ok(Category::Stderr),
+        3 => Ok(Category::Important),
+        4 => Ok(Category::Telemetry),
+        _ => Err(YT_BAD_ARGUMENTS),
+    }
+}
+
+pub(crate) fn output_given(
+    alloc: Global,
+    category: u32,
+    output: &[u8],
+    more: &[u8],
+) -> Result<Coming, u32>
+    ensures said { IfOk result (λ told. told ≡ said.Output (category_of category) output.now (unwrap_or (said_by more.now) [])) }
+    ensures can { IfOk result (λ told. CanBeSaid more.now) }
+    ensures wanted { category ≤ 4 → IsUtf8 output.now → CanBeSaid more.now → IfErr result (λ code. code ≡ YT_NO_MEMORY) }
+    ensures unknown { 4 < category → result ≡ Err YT_BAD_ARGUMENTS }
     ensures no_recording { IfErr result (λ code. code ≡ YT_BAD_RECORDING → ⊥) }
     ensures code { IfErr result IsCodeOfText }
 {
-    let category = match category {
-        0 => Category::Console,
-        1 => Category::Stdout,
-        2 => Category::Stderr,
-        _ => return Err(YT_BAD_ARGUMENTS),
-    };
+    let category = category_given(category)?;
+    let said = said_given(alloc, more)?;
     let text = text_given(alloc, output)?;
     Ok(Coming::Output {
         category,
         text,
-        more: More::none(),
+        more: said.unwrap_or(More::none()),
     })
 }
 
@@ -231,12 +252,15 @@ fn stop_given(
     thread: i64,
     shows: &[u8],
     later: bool,
+    more: &[u8],
 ) -> Result<Coming, u32>
-    ensures said { IfOk result (IsStop sources.now reason.now thread (json_of shows.now) later) }
-    ensures wanted { IsUtf8 reason.now → IfErr result (λ code. code ≡ YT_BAD_ARGUMENTS → ⊥) }
+    ensures said { IfOk result (IsStop sources.now reason.now thread (json_of shows.now) later (unwrap_or (said_by more.now) [])) }
+    ensures can { IfOk result (λ told. CanBeSaid more.now) }
+    ensures wanted { IsUtf8 reason.now → CanBeSaid more.now → IfErr result (λ code. code ≡ YT_BAD_ARGUMENTS → ⊥) }
     ensures no_moment { IfErr result (λ code. code ≡ YT_BAD_RECORDING → moment_over sources.now (json_of shows.now) ≡ None) }
     ensures code { IfErr result IsCodeOfText }
 {
+    let said = said_given(alloc, more)?;
     let reason = text_given(alloc, reason)?;
     let shows = moment_given(alloc, sources, shows)?;
     Ok(Coming::Stopped {
@@ -244,11 +268,11 @@ fn stop_given(
         thread,
         shows,
         later,
-        more: More::none(),
+        more: said.unwrap_or(More::none()),
     })
 }
 
-/// Tells output: `category` is 0 console, 1 stdout, 2 stderr; at most 128 bytes of UTF-8.
+/// Tells output: `category` is 0 console, 1 stdout, 2 stderr, 3 important, 4 telemetry; at most 128 bytes of UTF-8.
 #[unsafe(no_mangle)]
 pub extern "C" fn yt_adapter_output(
     alloc: Global,
@@ -263,7 +287,7 @@ pub extern "C" fn yt_adapter_output(
     ensures latched { FromTo adapter.old adapter.new (LatchesUnlessText result) }
     ensures apart { FromTo adapter.old adapter.new StaysOpenApart }
     ensures length { FromTo adapter.old adapter.new (LeavesBytes found.new.bytes) }
-    ensures wanted { category ≤ 2 → IsUtf8 output.now → AcceptsText result }
+    ensures wanted { category ≤ 4 → IsUtf8 output.now → AcceptsText result }
     ensures unknown { FromTo adapter.old adapter.new (RefusesUnknown category result) }
     ensures no_recording { result ≢ YT_BAD_RECORDING }
     ensures limits { FromTo adapter.old adapter.new KeepsLimits }
@@ -271,7 +295,8 @@ pub extern "C" fn yt_adapter_output(
     ensures acts { FromTo adapter.old adapter.new KeepsActs }
     ensures gathered { FromTo adapter.old adapter.new (λ a b. b.variables ≡ a.variables) }
 {
-    tell_handle(alloc, adapter, output_given(alloc, category, output), found)
+    let coming = output_given(alloc, category, output, &[]);
+    tell_handle(alloc, adapter, coming, found)
 }
 
 /// Tells a stop where the moment that is shown can be read, over the debuggee's sources.
@@ -282,13 +307,14 @@ fn tell_stop(
     thread: i64,
     shows: &[u8],
     later: bool,
+    more: &[u8],
     found: &mut YtFound,
 ) -> u32
-    ensures tells { TellsStop reason.now thread shows.now later result found.new held.old held.new }
+    ensures tells { TellsStopWith reason.now thread shows.now later more.now result found.new held.old held.new }
     ensures latched { IfSome held.old.adapter.fault (λ fault. ((result ≡ adapter_number fault) ⊎ IsCodeOfText result) × (held.new.adapter ≡ held.old.adapter)) }
     ensures apart { StaysOpenApart held.old held.new }
     ensures length { LeavesBytes found.new.bytes held.old held.new }
-    ensures wanted { IsUtf8 reason.now → result ≢ YT_BAD_ARGUMENTS }
+    ensures wanted { IsUtf8 reason.now → CanBeSaid more.now → result ≢ YT_BAD_ARGUMENTS }
     ensures no_moment { ShowsNoMoment shows.now result held.old held.new }
     ensures limits { KeepsLimits held.old held.new }
     ensures frame { KeepsFrame held.old held.new }
@@ -296,7 +322,7 @@ fn tell_stop(
     ensures gathered { held.new.variables ≡ held.old.variables }
 {
     let sources = held.adapter.debuggee().sources();
-    let coming = stop_given(alloc, sources, reason, thread, shows, later);
+    let coming = stop_given(alloc, sources, reason, thread, shows, later, more);
     tell_given(alloc, held, coming, found)
 }
 
@@ -329,7 +355,43 @@ pub extern "C" fn yt_adapter_stopped(
     let Some(mut held) = take_out(alloc, adapter) else {
         return YT_NONE;
     };
-    let code = tell_stop(alloc, &mut *held, reason, thread, shows, later, found);
+    let more: &[u8] = &[];
+    let code = tell_stop(alloc, &mut *held, reason, thread, shows, later, more, found);
+    *adapter = handle_of(held);
+    code
+}
+
+/// As `yt_adapter_stopped`, with what is said beside the stop, such as `{"description":"a breakpoint","hitBreakpointIds":[1]}`: a
+/// JSON object, as of `yt_adapter_learned_with`. It is left out where the event would be longer than a body may be.
+#[unsafe(no_mangle)]
+pub extern "C" fn yt_adapter_stopped_with(
+    alloc: Global,
+    adapter: &mut YtAdapter,
+    reason: &[u8],
+    thread: i64,
+    shows: &[u8],
+    later: bool,
+    more: &[u8],
+    found: &mut YtFound,
+) -> u32
+    ensures none { FromEmpty adapter.old adapter.new (result ≡ YT_NONE) (found.new ≡ found.old) }
+    ensures held { IsFull adapter.old → IsFull adapter.new }
+    ensures tells { FromTo adapter.old adapter.new
+        (TellsStopWith reason.now thread shows.now later more.now result found.new) }
+    ensures latched { FromTo adapter.old adapter.new (LatchesUnlessText result) }
+    ensures apart { FromTo adapter.old adapter.new StaysOpenApart }
+    ensures length { FromTo adapter.old adapter.new (LeavesBytes found.new.bytes) }
+    ensures wanted { IsUtf8 reason.now → CanBeSaid more.now → result ≢ YT_BAD_ARGUMENTS }
+    ensures no_moment { FromTo adapter.old adapter.new (ShowsNoMoment shows.now result) }
+    ensures limits { FromTo adapter.old adapter.new KeepsLimits }
+    ensures frame { FromTo adapter.old adapter.new KeepsFrame }
+    ensures acts { FromTo adapter.old adapter.new KeepsActs }
+    ensures gathered { FromTo adapter.old adapter.new (λ a b. b.variables ≡ a.variables) }
+{
+    let Some(mut held) = take_out(alloc, adapter) else {
+        return YT_NONE;
+    };
+    let code = tell_stop(alloc, &mut *held, reason, thread, shows, later, more, found);
     *adapter = handle_of(held);
     code
 }
