@@ -1,5 +1,6 @@
 -- What the calls of an adapter do, as their contracts say it.
-use Rattle.std.specs.Prelude.{◌≡◌, ◌≢◌, ◌⊎◌, false, IsOk, OnErr, Result, ℕ, ◌<◌, ◌≤◌, List, [], ◌∷◌, ◌++◌, take, Option, Some, None, Ok, Err, ⊤, true}
+use Rattle.std.specs.Prelude.{◌≡◌, ◌≢◌, ◌⊎◌, false, IsOk, OnErr, Result, ℕ, ◌<◌, ◌≤◌, List, [], ◌∷◌, ◌++◌, length, take, drop, Option, Some, None, Ok, Err, ⊤, true, Vec}
+use Rattle.std.specs.Borrow.{Bor}
 use Rattle.dap_frame.specs.Feeds.{Gathers}
 use Rattle.dap_frame.specs.Intake.{Intake}
 use Rattle.dap_frame.specs.Settings.{Settings, bounds_of}
@@ -22,7 +23,7 @@ use Rattle.dap_plan.specs.Handling.{some_plan, turns}
 use Rattle.dap_plan.specs.Plan.{Plan, written_by, entries_of}
 use Rattle.dap_outbox.specs.Draft.{bytes_of}
 use Rattle.dap_plan.specs.Polling.{polls, has_debuggee}
-use Rattle.dap_plan.specs.SessionState.{SessionState, SessionStep, IsUnasked, HasTooMany}
+use Rattle.dap_plan.specs.SessionState.{SessionState, SessionStep, IsUnasked, HasTooMany, AppendsSome}
 use Rattle.dap_plan.specs.Session.{Session, oldest, to_handle}
 use Rattle.dap_reader.specs.Reader.{Reader}
 use Rattle.dap_adapter.specs.AdapterState.{AdapterState, state_of}
@@ -80,6 +81,26 @@ TakeRefused old p piece (Frame fault) after = FrameClosed old piece fault
 TakeRefused old p piece (Body cause offset) after = BodyRefused old piece cause offset
 TakeRefused old p piece OutOfMemory after = MemoryRefused old p piece after
 TakeRefused old p piece fault after = ClosedBy old p.session piece fault
+
+-- ---- next
+
+-- what `take` does, with the bytes used cut off and what is to be written appended
+pub record TakesNext {D : Type 0} (follows : Goes D) (old : AdapterState D) (piece before : List ℕ) (message : Option Message) (new : AdapterState D) (left after : List ℕ) : Type 0 where
+  pub used : ℕ
+  pub takes_it : AppendsSome (λ bytes. Takes follows old piece used bytes message new) before after
+  pub left_is : left ≡ drop used piece
+
+-- the same of a piece that has bytes, and of a buffer
+abbrev pub NextIs : {A D : Type 0} → Goes D → AdapterState D → Bor (List ℕ) → Vec ℕ A → AdapterState D → Bor (List ℕ) → Vec ℕ A → Option Message → Type 0
+NextIs follows old piece before new left after message = 0 < length piece.now → TakesNext follows old piece.now before.items message new left.now after.items
+
+-- of a piece with bytes fewer are left
+abbrev pub Shortens : List ℕ → List ℕ → Type 0
+Shortens before after = 0 < length before → length after < length before
+
+-- this is so of an open adapter and a piece without bytes
+abbrev pub WhereIdle : {D : Type 0} → AdapterState D → List ℕ → Type 0 → Type 0
+WhereIdle e piece says = e.fault ≡ None → piece ≡ [] → says
 
 -- ---- turn
 

@@ -2,7 +2,7 @@
 //!
 //! Overview and Specification. Bytes of the client go in by `take`, in any pieces, requests are answered by `turn`, one a
 //! call, and what happens to the debuggee is told by `poll`; each call hands out the bytes that it writes, and none of them
-//! reads, writes or waits. `answer` makes these calls for a piece of bytes, and `tell` polls, for a program with a loop of its
+//! reads, writes or waits. `next` goes through a piece message by message. `answer` makes these calls for a piece of bytes, and `tell` polls, for a program with a loop of its
 //! own; `answer_body` takes a message without its frame, and `first_body` lends those that go out, for a transport with frames of
 //! its own. `serve` makes these calls for the bytes that a reader gives, and writes what they hand out.
 #![tactic(auto)]
@@ -10,6 +10,7 @@
 mod adapter;
 mod answering;
 mod bodies;
+mod next;
 mod outlet;
 mod served;
 mod serving;
