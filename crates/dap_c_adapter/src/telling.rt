@@ -355,8 +355,7 @@ pub extern "C" fn yt_adapter_stopped(
     let Some(mut held) = take_out(alloc, adapter) else {
         return YT_NONE;
     };
-    let more: &[u8] = &[];
-    let code = tell_stop(alloc, &mut *held, reason, thread, shows, later, more, found);
+    let code = tell_stop(alloc, &mut *held, reason, thread, shows, later, &[], found);
     *adapter = handle_of(held);
     code
 }
