@@ -3,7 +3,7 @@ use Rattle.std.specs.Prelude.{◌≡◌, ℕ, ◌+◌, ◌≤◌, List, [], ◌�
 use Rattle.dap_json.specs.Field.{max_seq}
 use Rattle.dap_message.specs.MessageParts.{AdapterEvent, initialized, output, stopped, continued, exited, terminated, success_response}
 use Rattle.dap_body.specs.Body.{data_in}
-use Rattle.dap_message.specs.Lengths.{max_fixed, event_fits, event_within}
+use Rattle.dap_message.specs.Lengths.{max_fixed, event_within}
 use Rattle.dap_envelope.specs.Canon.{canon}
 use Rattle.dap_envelope.specs.ReadBack.{AllReadBack}
 use Rattle.dap_body.specs.declared.body.Body.{Body}
@@ -90,4 +90,4 @@ AnswersIfFits most old new request given fits = IsTrue fits → AppendsDraft mos
 
 -- if an event with all that is said beside it has, it is told
 abbrev pub EmitsIfFits : ℕ → OutboxState → OutboxState → Event → Bool → Type 0
-EmitsIfFits most old new event fits = (fits ≡ event_fits most (old.numbers.used + 1) (event_of event)) × (IsTrue fits → AppendsDraft most old new (emit (event_of event)))
+EmitsIfFits most old new event fits = IsTrue fits → AppendsDraft most old new (emit (event_of event))

@@ -3,7 +3,7 @@ ghost use Rattle.std.specs.Prelude.{◌≡◌, ◌+◌, ◌<◌, ◌≤◌, ◌+
 ghost use Rattle.dap_outbox.specs.Draft.{ask};
 ghost use Rattle.dap_outbox.specs.Outbox.{event_of, IsReady, AppendsDraft, HoldsNone, AppendsReply, AppendsEvent, EmitsIfFits, answer_fits, AnswersIfFits};
 ghost use Rattle.dap_json.specs.Field.{max_seq};
-ghost use Rattle.dap_message.specs.Lengths.{max_fixed, IsWithin};
+ghost use Rattle.dap_message.specs.Lengths.{max_fixed, IsWithin, event_fits};
 
 use crate::answer::{Answer, Event};
 use crate::texts::{append_reply, append_terminal, append_told};
@@ -146,6 +146,7 @@ impl Outbox {
         most: usize,
     ) -> Result<bool, AllocError>
         requires { self.old.numbers.used < self.old.numbers.last }
+        ensures fits { IfOk result (λ ok. ok ≡ event_fits most (self.old.numbers.used + 1) (event_of event.now)) }
         ensures writes { IfOk result (EmitsIfFits most self.old self.new event.now) }
         ensures before { self.new.before ≡ self.old.before }
         ensures too_long { IfOk result (λ ok. ok ≡ false → self.new ≡ self.old) }
