@@ -37,13 +37,13 @@ class Client:
         self.write(b"Content-Length: %d\r\n\r\n%b" % (len(body), body))
         return self.seq
 
-    def answer_to(self, seq):
-        """The body of a success, or why it fails; none where the stream has ended."""
+    def answer_to(self, seq, whole=False):
+        """The body of a success, or why it fails, or the whole response; none where the stream has ended."""
         while message := self.next():
             if message["type"] == "event":
                 self.events.append(message)
             elif message["request_seq"] == seq:
-                return message.get("body", {}) if message["success"] else message["message"]
+                return message if whole else message.get("body", {}) if message["success"] else message["message"]
 
     def ask(self, command, **arguments):
         return self.answer_to(self.send(command, **arguments))

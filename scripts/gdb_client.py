@@ -105,7 +105,7 @@ class Client(client.Client):
 
     def breakpoints(self, lines, source=SOURCE):
         """Sets breakpoints, and gives the line of each, if it is verified."""
-        answer = self.ask("setBreakpoints", source={"path": source}, breakpoints=[{"line": line} for line in lines])
+        answer = self.ask("setBreakpoints", source={"path": source}, breakpoints=[line if isinstance(line, dict) else {"line": line} for line in lines])
         return [one["verified"] and one["line"] for one in answer["breakpoints"]]
 
     def set_breakpoints(self, lines, source=SOURCE):
@@ -148,6 +148,11 @@ class Client(client.Client):
         """The value of a text in a frame, or why there is none."""
         answer = self.ask("evaluate", expression=text, frameId=self.frames[level]["id"], **more)
         return answer if isinstance(answer, str) else answer["result"]
+
+    def why(self, text, level):
+        """Why a text has no value in a frame, in gdb's words."""
+        answer = self.answer_to(self.send("evaluate", expression=text, frameId=self.frames[level]["id"]), whole=True)
+        return answer["body"]["error"]["variables"]["why"]
 
     def set_variable(self, reference, name, value):
         return self.ask("setVariable", variablesReference=reference, name=name, value=value)["value"]

@@ -11,7 +11,7 @@ of gdb's but `post_event`: all else happens in gdb's thread, one thing after the
 
 This file knows which thing that a client, gdb or `dap host` says leads to which of the others. The rest is beside it:
 `streams.py` has bytes, `lines.py` the lines of `dap host`, `launch.py` the client's arguments, `debuggee.py` gdb's commands,
-`sources.py` sources, `stops.py` frames, `values.py` values.
+`points.py` breakpoints, `sources.py` sources, `stops.py` frames, `values.py` values.
 """
 import collections
 import json
@@ -25,17 +25,22 @@ import gdb
 
 sys.path.insert(0, os.path.dirname(os.path.abspath(__file__)))
 
-from debuggee import Debuggee, Watch, fault_of, line_of_point, load, resume, select  # noqa: E402
+from debuggee import SIGNALS, Debuggee, Watch, fault_of, load, resume, select  # noqa: E402
 from launch import Launch  # noqa: E402
 from lines import Ended, Lines, output_lines, said  # noqa: E402
+from points import line_of_point  # noqa: E402
 from sources import Sources  # noqa: E402
 from stops import Stop  # noqa: E402
 from streams import Fault, Terminal, bodies_of, framed  # noqa: E402
 from texts import clean  # noqa: E402
-from values import FAULTS, as_set, part, settable, shown  # noqa: E402
+from values import FAULTS, as_set, beside, part, settable, shown  # noqa: E402
 
 COMMANDS = {"stepIn": "step", "next": "next", "stepOut": "finish", "continue": "continue",
             "stepBack": "reverse-step", "reverseContinue": "reverse-continue"}
+# What is offered beside the flags of `dap host`, and what is not: gdb steps back only in what it records.
+OFFERS = {"supportsConditionalBreakpoints": True, "supportsHitConditionalBreakpoints": True, "supportsLogPoints": True,
+          "supportsEvaluateForHovers": True, "supportTerminateDebuggee": True, "supportsStepBack": False,
+          "exceptionBreakpointFilters": [{"filter": name, "label": name, "default": True} for name in SIGNALS]}
 NOT_STARTED = 127  # the code of a program that could not be started, as a shell has it
 LAST = "disconnect", "terminate"
 ENDING = signal.SIGTERM, signal.SIGHUP, signal.SIGINT
@@ -60,6 +65,8 @@ class Adapter:
         self.wants_types = False
         self.running, self.entry, self.here, self.setting, self.found_more = False, False, None, None, False
         self.ending, self.kills, self.attaching = None, False, False
+        self.wanted = {}  # of each source, what the client wants of a breakpoint, by the line where it is set
+        self.asked, self.ids = {}, {}  # of each `setBreakpoints` its source and lines; of these the client's numbers
 
     # The loop, and the end
 
@@ -120,7 +127,7 @@ class Adapter:
         if self.lines:
             self.lines.close()
         self.sources = Sources()
-        self.lines = Lines(self.sources.news())
+        self.lines = Lines(self.sources.news(), OFFERS)
         self.silent = True
         for line in self.heard:
             self.hand_on([line])
@@ -134,6 +141,8 @@ class Adapter:
         for answer, told in self.lines.answers(lines):
             if answer.startswith(b"< "):
                 over = over or self.ending is not None and json.loads(answer[2:]).get("request_seq") == self.ending
+                if answer.startswith(b'< {"body":{"breakpoints":'):
+                    self.learn_numbers(json.loads(answer[2:]))
                 if not self.silent:
                     self.client_out.write(framed(answer[2:-1]))
             elif "act" in told:
@@ -182,7 +191,17 @@ class Adapter:
         elif isinstance(event, gdb.BreakpointEvent):
             reason = "breakpoint"
         self.entry = False
-        self.later(self.tell_stop, reason, "The program received %s.\n" % name if reason == "exception" else "")
+        numbers = [point.number for point in getattr(event, "breakpoints", ())]
+        if reason == "exception":
+            note = "The program received %s." % name
+            self.later(self.tell_stop, reason, note + "\n", {"description": note, "text": name})
+        else:
+            self.later(self.tell_stop, reason, "", self.hits_of(numbers))
+
+    def hits_of(self, numbers):
+        """What stands beside a stop at breakpoints of gdb's: the client's numbers of them."""
+        ids = sorted(one for where in self.debuggee.lines_of(numbers) for one in self.ids.get(where, ()))
+        return {"hitBreakpointIds": ids} if ids else {}
 
     def on_objfile(self, event):
         self.found_more = True
@@ -194,7 +213,7 @@ class Adapter:
     def tell_output(self, all=False):
         self.say_output("stdout", self.terminal.written(all))
 
-    def tell_stop(self, reason, note=""):
+    def tell_stop(self, reason, note="", more={}):
         self.tell_output(True)
         self.say_output("console", note)
         if self.found_more:
@@ -202,15 +221,15 @@ class Adapter:
             self.sources.find()
         for path, line, place in self.debuggee.points_found():
             self.say_output("console", "The breakpoint at %s:%d is set, at line %s.\n" % (clean(path), line, place))
-        self.tell_moment(reason)
+        self.tell_moment(reason, more)
         self.watch.standing = self.debuggee.pid
 
-    def tell_moment(self, reason):
-        self.running, self.reason, self.here = False, reason, Stop(self.sources)
+    def tell_moment(self, reason, more):
+        self.running, self.reason, self.here = False, (reason, more), Stop(self.sources)
         news = self.sources.news()
         if news:
             self.say("loaded", sources=news)
-        self.say("stopped", reason=reason, thread=self.here.thread_of_moment, moment=self.here.moment, later=True)
+        self.say("stopped", reason=reason, thread=self.here.thread_of_moment, moment=self.here.moment, later=True, more=more)
 
     def tell_change(self):
         """Stops once more where something that was told has changed: there is no other way to tell it again."""
@@ -222,7 +241,7 @@ class Adapter:
             select(thread, 0)
         if changed:
             self.say("continued", thread=thread)
-            self.tell_moment(self.reason)
+            self.tell_moment(*self.reason)
 
     def tell_exit(self, code):
         if self.running or self.here:
@@ -257,7 +276,7 @@ class Adapter:
     def set_breakpoints(self, source, lines):
         path = source.get("path", self.sources.all[source.get("sourceReference", 0) - 1].get("path"))
         if path:
-            self.debuggee.set_points(path, lines)
+            self.debuggee.set_points(path, lines, self.wanted.get(path, {}), lambda *output: self.later(self.say_output, *output))
 
     def start(self, launch):
         self.started, self.running = True, True
@@ -357,11 +376,13 @@ class Adapter:
             self.ending = seq if command == "disconnect" else self.ending
             self.kills = self.kills or command == "terminate" or arguments.get("terminateDebuggee") is True
         elif command == "setBreakpoints":
-            return self.move_points(arguments["source"].get("path"), arguments.get("breakpoints"))
+            return self.move_points(arguments["source"].get("path"), arguments.get("breakpoints"), seq)
+        elif command == "setExceptionBreakpoints":
+            self.debuggee.stop_at_signals(arguments["filters"])
         elif command == "variables" and self.stands():
             self.tell_holder(self.object_of("holder", arguments["variablesReference"]))
         elif command == "evaluate" and self.stands():
-            self.learn_value(arguments["expression"], arguments.get("frameId"), arguments.get("context") == "repl")
+            self.learn_value(arguments["expression"], arguments.get("frameId"))
         elif command == "setVariable" and self.stands():
             self.learn_setting(self.object_of("holder", arguments["variablesReference"]), arguments["name"], arguments["value"])
         return False
@@ -375,34 +396,46 @@ class Adapter:
             if not fault:
                 self.start_lines()
 
-    def move_points(self, path, points):
+    def move_points(self, path, points, seq):
         """Asks for breakpoints where gdb puts them, or, where it has no code for one, past the end of the source."""
-        lines = self.sources.lines(path)
-        for point in points if lines else ():
+        lines, self.wanted[path], asked = self.sources.lines(path), {}, []
+        for point in points or ():
             line = point["line"] + 1 - self.first_line
-            point["line"] = (line_of_point(path, line) or max(line, lines + 1)) - 1 + self.first_line
+            if lines:
+                line = line_of_point(path, line) or max(line, lines + 1)
+                point["line"] = line - 1 + self.first_line
+            self.wanted[path].setdefault(line, point)
+            asked.append((path, line))
+        self.asked[seq] = path, asked
         return bool(points and lines)
+
+    def learn_numbers(self, answer):
+        """The numbers that the client is given for breakpoints."""
+        path, asked = self.asked.pop(answer["request_seq"], (None, []))
+        for where in [where for where in self.ids if where[0] == path]:
+            del self.ids[where]
+        for where, one in zip(asked, answer["body"]["breakpoints"]):
+            self.ids.setdefault(where, []).append(one["id"])
 
     def tell_holder(self, holder):
         """Tells the variables of a holder, once a stop."""
         if not self.here.is_told(holder):
             with self.debuggee.looking(self.here.frame_of(holder)):
                 variables = self.here.variables(holder, self.wants_types)
-            self.tell_fault("")
+            self.say_output("console", self.interruption())
             self.say("learned", holder=holder, variables=variables)
 
-    def learn_value(self, text, frame, tells):
+    def learn_value(self, text, frame):
         where = (self.here.thread_of_moment, 0) if frame is None else self.here.frames[self.object_of("frame", frame)]
         learned = {}
         with self.debuggee.looking(where):
             value, fault = value_of(text)
             if value is not None:
-                learned = {"value": shown(value)}
+                learned = {"value": shown(value), **beside(value, self.wants_types)}
                 if self.here.is_found(where, text, learned["value"]):  # the client has its number
                     return
                 learned.update(self.here.holder_of(where, part(text, text, lambda: value)))
-        self.tell_fault(fault if tells else "")
-        self.say("learned", text=text, **learned)
+        self.say("learned", text=text, **(learned or self.reason_for(fault)))
 
     def learn_setting(self, holder, name, text):
         self.tell_holder(holder)
@@ -410,16 +443,18 @@ class Adapter:
         with self.debuggee.looking(self.here.frame_of(holder)):
             expression = settable(one)
             value, fault = value_as(expression, text) if expression else (None, "%s can't be set.\n" % clean(name))
-        self.tell_fault(fault)
-        if value is not None:
+        if value is None:
+            self.say("learned", text=text, **self.reason_for(fault))
+        else:
             self.setting = holder, place, expression, text, value
             self.say("learned", text=text, value=value)
 
-    def tell_fault(self, fault):
-        """Tells why there is no value, and always if it was interrupted."""
-        if self.watch.reason:
-            fault += "The evaluation was interrupted: %s.\n" % self.watch.reason
-        self.say_output("console", fault)
+    def reason_for(self, fault):
+        """Why there is no value, as a line of `dap host` says it."""
+        return {"why": (fault + self.interruption()).strip()}
+
+    def interruption(self):
+        return "The evaluation was interrupted: %s.\n" % self.watch.reason if self.watch.reason else ""
 
 
 def tried(call):

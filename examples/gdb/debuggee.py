@@ -13,10 +13,12 @@ import time
 
 import gdb
 
+from points import Point, place_of
 from texts import clean
 
 TICK = 0.1  # seconds
-NOWHERE = os.open(os.devnull, os.O_WRONLY | os.O_CLOEXEC)
+# The signals at which a client can choose to stop: those of a fault, and others that programs send.
+SIGNALS = ("SIGSEGV", "SIGABRT", "SIGFPE", "SIGBUS", "SIGILL", "SIGSYS", "SIGPIPE", "SIGHUP", "SIGTERM", "SIGQUIT", "SIGUSR1", "SIGUSR2")
 LIBC = ctypes.CDLL(None)
 
 
@@ -170,14 +172,23 @@ class Debuggee:
 
     # Breakpoints
 
-    def set_points(self, path, lines):
-        """These lines replace all others of a source."""
+    def set_points(self, path, lines, wanted, say):
+        """These lines replace all others of a source. Of each line it is known what the client wants there; what a breakpoint says
+        is handed to `say`, with its category."""
         for point in self.points.pop(path, []):
             self.waiting.pop(point, None)
             point.delete()
-        self.points[path] = [point_at(source=path, line=line) for line in lines]
+        self.points[path] = [Point(path, line, wanted.get(line, {}), say) for line in lines]
         self.waiting.update((point, (path, line)) for point, line in zip(self.points[path], lines) if point.pending)
 
+    def lines_of(self, numbers):
+        """The source and the line of each of these breakpoints of gdb's, as they were set."""
+        return [(path, point.line_set) for path, points in self.points.items() for point in points if point.number in numbers]
+
+    def stop_at_signals(self, names):
+        """Stops at these signals, of those that a client can choose, and at no other of them."""
+        for name in SIGNALS:
+            fault_of("handle %s %s pass" % (name, "stop print" if name in names else "nostop noprint"))
 
     def points_found(self):
         """The breakpoints that waited for their code, which is loaded now: of each its source, its line, and where it is."""
@@ -200,37 +211,3 @@ class Debuggee:
         finally:
             for point in points:
                 point.enabled = True
-
-
-@contextlib.contextmanager
-def quiet():
-    """Within it gdb says nothing on standard error, such as that it finds no line for a breakpoint."""
-    kept = os.dup(2)
-    os.dup2(NOWHERE, 2)
-    try:
-        yield
-    finally:
-        gdb.flush(gdb.STDERR)
-        os.dup2(kept, 2)
-        os.close(kept)
-
-
-def point_at(**where):
-    with quiet():
-        return gdb.Breakpoint(**where)
-
-
-def place_of(point):
-    """The line that gdb puts a breakpoint at; none where no code of it is loaded."""
-    return point.locations[0].source[1] if point.locations else None
-
-
-def line_of_point(path, line):
-    """Where gdb puts a breakpoint that is set there."""
-    try:
-        point = point_at(source=path, line=line, internal=True)
-    except gdb.error:
-        return None
-    place = place_of(point)
-    point.delete()
-    return place

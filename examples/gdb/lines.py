@@ -23,10 +23,10 @@ class Ended(Exception):
 
 
 class Lines:
-    def __init__(self, sources):
+    def __init__(self, sources, offers):
         self.count = 0  # of the lines that were written
         with tempfile.NamedTemporaryFile("w", suffix=".json") as file:
-            json.dump({"sources": sources}, file)
+            json.dump({"sources": sources, "offers": offers}, file)
             file.flush()
             self.dap = subprocess.Popen([DAP, "host", file.name], stdin=subprocess.PIPE, stdout=subprocess.PIPE)
             self.answers([])

@@ -7,7 +7,7 @@ import os
 import gdb
 
 from texts import clean
-from values import all_parts, has_parts, part, rest_of, shown, type_of
+from values import all_parts, beside, has_parts, part, rest_of, shown
 
 MOST_FRAMES = 200  # of a thread
 OURS = 1000000  # holders from here on are ours; those of a moment are counted from 0
@@ -77,8 +77,7 @@ class Stop:
         where, call = self.holders[holder]
         self.parts[holder] = all_parts(call)
         self.told[holder] = [shown(one.value) for one in self.parts[holder]]
-        beside = type_of if with_types else lambda _: {}
-        return [{"name": clean(one.name), "value": text, **self.holder_of(where, one), **beside(one.value)}
+        return [{"name": clean(one.name), "value": text, **self.holder_of(where, one), **beside(one.value, with_types)}
                 for one, text in zip(self.parts[holder], self.told[holder])]
 
     def holder_of(self, where, one):

@@ -48,12 +48,20 @@ def within(text):
     return clean(text if len(text) <= MOST_TEXT else text[:MOST_TEXT] + "...")
 
 
-def type_of(value):
-    """What stands beside a variable: the text of its value's type, where it has one."""
-    try:
-        return {"more": {"type": within(str(value.type))}} if isinstance(value, gdb.Value) else {}
-    except FAULTS:
+def beside(value, with_type):
+    """What stands beside a value: its type, and of a pointer where it points."""
+    if not isinstance(value, gdb.Value):
         return {}
+    more = {}
+    try:
+        kind = value.type.strip_typedefs()
+        if with_type:
+            more["type"] = within(str(value.type))
+        if kind.code == gdb.TYPE_CODE_PTR:
+            more["memoryReference"] = hex(int(value))
+    except FAULTS:  # of the part that can't be read
+        pass
+    return {"more": more} if more else {}
 
 
 def part(name, expression, call):

@@ -1,9 +1,10 @@
 -- The outbox of a step of a session.
-use Rattle.std.proofs.Common.{◌≡◌, ℕ, ◌≤◌, List, [], ◌∷◌, ◌++◌, Result, Ok, Err, OnOk, ap, arith}
+use Rattle.std.proofs.Common.{◌≡◌, ℕ, ◌+◌, ◌≤◌, List, [], ◌∷◌, ◌++◌, length, Result, Ok, Err, OnOk, ap, subst, arith}
 use Rattle.dap_json.specs.Field.{max_seq}
-use Rattle.dap_message.specs.Lengths.{max_fixed}
+use Rattle.dap_message.specs.Lengths.{max_fixed, event_within}
+use Rattle.dap_message.specs.MessageParts.{AdapterEvent}
 use Rattle.dap_tables.specs.Seq.{Numbers}
-use Rattle.dap_outbox.specs.Draft.{Draft}
+use Rattle.dap_outbox.specs.Draft.{Draft, emit}
 use Rattle.dap_outbox.specs.Outbox.{OutboxState, IsReady, Holds, AppendsDraft}
 use Rattle.dap_plan.specs.Session.{Session, numbers_of}
 
@@ -18,6 +19,14 @@ holds-none s out ready room last =
 pub holds-more : {T E : Type 0} (r : Result T E) (old new : OutboxState) (limit used : ℕ) (ds : List Draft) (d : Draft) → Holds old limit used ds → OnOk r (AppendsDraft max_fixed old new d) → OnOk r (Holds new limit used (ds ++ d ∷ []))
 holds-more (Ok x) old new limit used ds d h w = w.holds limit used ds h.room h
 holds-more (Err e) old new limit used ds d h w = tt
+
+-- an event more, with what is said beside it where that fits
+pub holds-event : {T E : Type 0} (r : Result T E) (old new : OutboxState) (limit used : ℕ) (ds : List Draft) (event : AdapterEvent) (n : ℕ) → used + length ds + 1 ≡ n → Holds old limit used ds → OnOk r (AppendsDraft limit old new (emit (event_within limit (old.numbers.used + 1) event))) → OnOk r (Holds new limit used (ds ++ emit (event_within limit n event) ∷ []))
+holds-event (Ok x) old new limit used ds event n is h w =
+    let count = h.count in
+    let at : old.numbers.used + 1 ≡ n = omega arith in
+    subst (λ (k : ℕ). Holds new limit used (ds ++ emit (event_within limit k event) ∷ [])) at (w.holds limit used ds (omega arith) h)
+holds-event (Err e) old new limit used ds event n is h w = tt
 
 -- what holds where a call succeeded
 pub each-done : {T E : Type 0} (r : Result T E) (P Q : Type 0) → (P → Q) → OnOk r P → OnOk r Q
