@@ -6,7 +6,7 @@ use dap_command::SourceKey;
 use dap_json::Text;
 
 /// A query that was refused, with what was asked, lent.
-#[derive(Clone, Copy, Debug, Drop)]
+#[derive(Clone, Copy, Drop)]
 pub enum RefusedQuery<'q> {
     /// The frames of a thread, by its id.
     Frames {
