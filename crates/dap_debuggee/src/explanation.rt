@@ -4,6 +4,7 @@
 //! this profile's choice.
 use dap_command::SourceKey;
 use dap_json::Text;
+use std::alloc::AllocError;
 
 /// A query that was refused, with what was asked, lent.
 #[derive(Clone, Copy, Drop)]
@@ -49,4 +50,17 @@ pub struct Explanation {
     pub text: Text,
     /// Whether the client's user should see it: Specification, "Message", `showUser`.
     pub show_user: bool,
+}
+
+impl Clone for Explanation {
+    ghost use Rattle.std.specs.Prelude.{◌≡◌};
+
+    ghost is_clone = { λ a b. b ≡ a };
+
+    fn clone(&self) -> Result<Explanation, AllocError> {
+        Ok(Explanation {
+            text: self.text.clone()?,
+            show_user: self.show_user,
+        })
+    }
 }

@@ -30,7 +30,7 @@ use Rattle.dap_query.specs.Queries.{object_of}
 use Rattle.dap_outbox.specs.Draft.{Answer, Draft, reply, emit, ask, success, failure, explained, plain_success}
 use Rattle.dap_plan.specs.BodyLaws.{SuccessesHaveTheirBodies}
 use Rattle.dap_plan.specs.Breakpoints.{are_too_many}
-use Rattle.dap_plan.specs.Handling.{Change, ChangeResult, answer_each, after_change, after_query, assigned_result, by_reply, change_result, effect_of, failing, fits, reason_for, lines_asked, lines_change, lines_result, plan_for, resume_body, start_unless_asked, start_parked_unless_asked, wants_terminal, parked_wants_terminal, value_change, value_result}
+use Rattle.dap_plan.specs.Handling.{Change, ChangeResult, answer_each, after_change, after_query, assigned_result, by_reply, change_result, effect_of, failing, fits, change_reason, query_reason, lines_asked, lines_change, lines_result, plan_for, resume_body, start_unless_asked, start_parked_unless_asked, wants_terminal, parked_wants_terminal, value_change, value_result}
 use Rattle.dap_plan.specs.OrderLaws.{answer_to, comes_to}
 use Rattle.dap_plan.specs.Plan.{Made, Plan}
 use Rattle.dap_plan.specs.Session.{Session, query_of}
@@ -235,8 +235,8 @@ own-success view s r asked last e body names o h a =
 pub successes_have_their_bodies : QueriesHaveTheirBodies → SuccessesHaveTheirBodies
 unfolding plan_for
 successes_have_their_bodies queries view s r asked last effect.Query body names h a =
-    query-says s r (reason_for view s asked) (query_result view (query_of s) asked) (has_body (command_of asked)) body names
+    query-says s r (query_reason view s asked) (query_result view (query_of s) asked) (has_body (command_of asked)) body names
     (λ t e. queries view (query_of s) asked t (found-any asks (λ row. is_among s.phase row.phases) (rows_of (command_of asked)) effect.Query h refl) e) a
 successes_have_their_bodies queries view s r asked last effect.Change body names h a =
-    change-says s r (reason_for view s asked) (change_result view s asked) last (has_body (command_of asked)) body names (change-told view s asked) a
+    change-says s r (change_reason view s asked) (change_result view s asked) last (has_body (command_of asked)) body names (change-told view s asked) a
 successes_have_their_bodies queries view s r asked last e body names h a = own-success view s r asked last e body names refl h a

@@ -16,7 +16,7 @@ use Rattle.dap_decision.specs.declared.phase.Phase.TheVariants.{Fresh}
 use Rattle.dap_decision.specs.Failures.{command_of, call_in, call_refused, first_failure, key_refused, known_refused, name_refused, or_else, phase_refused, read_refused, waits_for_stop}
 use Rattle.dap_plan.specs.Handling.{refusal}
 use Rattle.dap_plan.specs.Handling.{effect_of, failing, plan, plan_of_call, plan_of_command, plan_unless}
-use Rattle.dap_plan.specs.OrderLaws.{holds_before, holds, of_effect, of_served, refuses, sets_too_many, names_too_many, exhausts_numbers, is_too_large, act_in, act_of, comes_to, IsAnswered, IsServed, IsBadKey, FailuresComeInOrder, reason_of_read, reason_of_command, failure_answer}
+use Rattle.dap_plan.specs.OrderLaws.{holds_before, holds, of_effect, of_served, refuses, sets_too_many, names_too_many, exhausts_numbers, is_too_large, act_in, act_of, comes_to, IsAnswered, IsServed, IsBadKey, FailuresComeInOrder, reason_of_effect, reason_of_served, failure_answer}
 use Rattle.dap_plan.specs.Plan.{Plan, at_once, after_answering}
 use Rattle.dap_outbox.specs.Draft.{Answer, failure}
 use Rattle.dap_plan.specs.Session.{Session}
@@ -25,7 +25,7 @@ use Rattle.dap_plan.specs.Within.{IsWithin}
 use Rattle.dap_plan.proofs.Ordered.{refusals_come_in_order}
 use Rattle.dap_decision.proofs.ServedRows.{unserved}
 use Rattle.dap_plan.proofs.ChangeResults.{call-suits}
-use Rattle.dap_plan.proofs.OwnRequests.{is-in, still-in, still-suits, still-first}
+use Rattle.dap_plan.proofs.OwnRequests.{is-in, still-in, still-suits, still-first, still-reason}
 use Rattle.dap_plan.proofs.EffectRows.{effect-row}
 use Rattle.dap_plan.proofs.Placed.{placed, still-placed}
 use Rattle.dap_plan.proofs.ServedInOrder.{served_first}
@@ -63,14 +63,14 @@ all-tests view s r key same =
 -- ---- the first failure
 
 call-first : (view : Shown) (s : Session) (r : Entry) (c : Command) (o : Option Effect) (read : Read Call) → effect_in c s.phase ≡ o → call_in r c ≡ read → IsWithin s
-    → (f : Failure) → served_first (of_effect (refuses view s) o read) (of_effect (sets_too_many s) o read) (of_effect (names_too_many view s) o read) (of_effect (exhausts_numbers view s) o read) (of_effect (is_too_large view s r) o read) ≡ Some f → plan_of_call view s r o read ≡ at_once (after_answering r (failing s r f (reason_of_read view s read)) s)
+    → (f : Failure) → served_first (of_effect (refuses view s) o read) (of_effect (sets_too_many s) o read) (of_effect (names_too_many view s) o read) (of_effect (exhausts_numbers view s) o read) (of_effect (is_too_large view s r) o read) ≡ Some f → plan_of_call view s r o read ≡ at_once (after_answering r (failing s r f (reason_of_effect view s o read)) s)
 call-first view s r c (Some e) (Ok asked) h i w f is =
     let row = effect-row (effect_of s r e) view s asked (still-suits s r e asked (call-suits c s.phase r.arguments e asked h i)) (still-in s r e (is-in c s.phase e h)) (still-placed s r e (placed c s.phase e h)) in
-    (row.order r w).some f (still-first view s r e asked ∙ is)
+    (row.order r w).some f (still-first view s r e asked ∙ is) ∙ ap (λ (o : Option Explanation). at_once (after_answering r (failing s r f o) s)) (still-reason view s r e asked)
 call-first view s r c (Some e) (Err key) h i w f is = absurd cc
 call-first view s r c None read h i w f is = absurd cc
 
-command-first : (view : Shown) (s : Session) (r : Entry) (o : Option Command) → IsWithin s → (f : Failure) → later_first view s r o ≡ Some f → plan_of_command view s r o ≡ at_once (after_answering r (failing s r f (reason_of_command view s r o)) s)
+command-first : (view : Shown) (s : Session) (r : Entry) (o : Option Command) → IsWithin s → (f : Failure) → later_first view s r o ≡ Some f → plan_of_command view s r o ≡ at_once (after_answering r (failing s r f (reason_of_served view s r o)) s)
 command-first view s r None w f is = absurd cc
 command-first view s r (Some c) w f is = call-first view s r c (effect_in c s.phase) (call_in r c) refl refl w f is
 
@@ -99,11 +99,11 @@ refused-plainly view s r key same why x is =
     never-explained (test_before view s r NotInitialized) (test_before view s r AlreadyInitialized) (test_before view s r UnknownCommand) (test_before view s r Unsupported) (test_before view s r (BadArguments key)) (test_before view s r WrongPhase) (test_before view s r NotStopped) (test_before view s r UnknownThread) (test_before view s r StaleReference) (test_before view s r UnknownSource) key s r why x
     (sym (refusals_come_in_order view s r key same) ∙ is)
 
-plan-first : (view : Shown) (s : Session) (r : Entry) (o : Option Failure) → ((x : Failure) → o ≡ Some x → failing s r x (reason_of_command view s r (command_of r)) ≡ failure x) → IsWithin s → (f : Failure) → or_else o (later_first view s r (command_of r)) ≡ Some f
+plan-first : (view : Shown) (s : Session) (r : Entry) (o : Option Failure) → ((x : Failure) → o ≡ Some x → failing s r x (reason_of_served view s r (command_of r)) ≡ failure x) → IsWithin s → (f : Failure) → or_else o (later_first view s r (command_of r)) ≡ Some f
     → plan_unless o view s r ≡ at_once (after_answering r (failure_answer view s r f) s)
 plan-first view s r (Some g) plainly w f is =
     let same : g ≡ f = cc in
-    ap (λ (a : Answer). at_once (after_answering r a s)) (sym (plainly g refl) ∙ ap (λ (x : Failure). failing s r x (reason_of_command view s r (command_of r))) same)
+    ap (λ (a : Answer). at_once (after_answering r a s)) (sym (plainly g refl) ∙ ap (λ (x : Failure). failing s r x (reason_of_served view s r (command_of r))) same)
 plan-first view s r None plainly w f is = command-first view s r (command_of r) w f is
 
 -- ---- where none holds
@@ -158,7 +158,7 @@ plan-serves view s r w none later last =
 
 pub failures_come_in_order : FailuresComeInOrder
 failures_come_in_order = record {
-  fails = λ view s r key same w f is. plan-first view s r (refusal view s r) (refused-plainly view s r key same (reason_of_command view s r (command_of r))) w f (sym (all-tests view s r key same) ∙ is);
+  fails = λ view s r key same w f is. plan-first view s r (refusal view s r) (refused-plainly view s r key same (reason_of_served view s r (command_of r))) w f (sym (all-tests view s r key same) ∙ is);
   serves = λ view s r key same w none last.
       let both = both-none (refusal view s r) (later_first view s r (command_of r)) (sym (all-tests view s r key same) ∙ none) in
       plan-serves view s r w both.0 both.1 last;

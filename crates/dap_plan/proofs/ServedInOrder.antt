@@ -29,7 +29,7 @@ use Rattle.dap_query.specs.Bodies.{QueryAnswer, QueryResult}
 use Rattle.dap_query.specs.Laws.{AreFew, IsAnsweredOrRefused, is_refused, is_answered}
 use Rattle.dap_query.specs.Queries.{object_of}
 use Rattle.dap_plan.specs.Breakpoints.{are_too_many}
-use Rattle.dap_plan.specs.Handling.{after_query, after_initialize, after_asking, after_asking_parked, after_launch, after_parked_launch, after_resume, after_disconnect, by_reply, answer_each, fits, lines_asked, Change, ChangeResult, change_asked, after_change, change_result, lines_change, lines_result, value_change, assigned_result, value_result, failing, reason_for}
+use Rattle.dap_plan.specs.Handling.{after_query, after_initialize, after_asking, after_asking_parked, after_launch, after_parked_launch, after_resume, after_disconnect, by_reply, answer_each, fits, lines_asked, Change, ChangeResult, change_asked, after_change, change_result, lines_change, lines_result, value_change, assigned_result, value_result, failing, change_reason}
 use Rattle.dap_plan.specs.OrderLaws.{refuses, sets_too_many, live_with, is_past_room, is_past_numbers, names_too_many, exhausts_numbers, is_too_large, is_long_answer, is_long_change, act_in, act_of, answer_to, comes_to, IsSuccess, IsByReply, IsDoneOrRefused, ParksAndAsks, AnswersAndAsks, IsAnswered}
 use Rattle.dap_plan.specs.Plan.{Made, Plan, at_once, after_answering}
 use Rattle.dap_outbox.specs.Draft.{Answer, Draft, reply, ask, failure, plain_success}
@@ -328,7 +328,7 @@ first_of view s r e asked = served_first (refuses view s e asked) (sets_too_many
 pub well-so : (e : Effect) (s : Session) (r : Entry) (asked : Call) (why : Option Explanation) (p : Plan) → act_in p ≡ act_of e s asked → ((last : Reply) → IsAnswered e s r last (comes_to p last)) → Fails None p s r why (DoesWell e s r asked p)
 well-so e s r asked why p a d = does-so p s r why (DoesWell e s r asked p) (record { asks = a; answered = d })
 
-pub change-fails : (view : Shown) (s : Session) (r : Entry) (asked : Call) → IsChange asked → Fails (first_of view s r effect.Change asked) (after_change s r (reason_for view s asked) (change_result view s asked)) s r (reason_for view s asked) (ChangesWell s r (reason_for view s asked) asked (change_result view s asked))
-change-fails view s r (call.SetBreakpoints key lines) n = lines-fail s r (reason_for view s (call.SetBreakpoints key lines)) key lines (view.verify key (lines_asked s.options lines))
-change-fails view s r (call.SetVariable asked) n = value-fails view s r (reason_for view s (call.SetVariable asked)) asked (object_of s.references asked.variables_reference) refl
+pub change-fails : (view : Shown) (s : Session) (r : Entry) (asked : Call) → IsChange asked → Fails (first_of view s r effect.Change asked) (after_change s r (change_reason view s asked) (change_result view s asked)) s r (change_reason view s asked) (ChangesWell s r (change_reason view s asked) asked (change_result view s asked))
+change-fails view s r (call.SetBreakpoints key lines) n = lines-fail s r (change_reason view s (call.SetBreakpoints key lines)) key lines (view.verify key (lines_asked s.options lines))
+change-fails view s r (call.SetVariable asked) n = value-fails view s r (change_reason view s (call.SetVariable asked)) asked (object_of s.references asked.variables_reference) refl
 change-fails view s r _ n = absurd n

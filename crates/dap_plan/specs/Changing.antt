@@ -15,8 +15,8 @@ use Rattle.dap_decision.specs.declared.effect.Effect.{Effect}
 use Rattle.dap_decision.specs.declared.effect.Effect.TheVariants as effect
 use Rattle.dap_query.specs.declared.no_answer.NoAnswer.{NoAnswer}
 use Rattle.dap_query.specs.declared.no_answer.NoAnswer.TheVariants.{Fails, OutOfMemory}
-use Rattle.dap_plan.specs.Handling.{Change, ChangeResult, after_change, failing, fits}
-use Rattle.dap_plan.specs.Plan.{at_once, after_answering}
+use Rattle.dap_plan.specs.Handling.{Change, ChangeResult, failing, fits}
+use Rattle.dap_plan.specs.Plan.{Plan, at_once, after_answering}
 use Rattle.dap_outbox.specs.Draft.{success, reply}
 use Rattle.dap_query.specs.QueryResults.{Says}
 use Rattle.dap_plan.specs.Session.{Session}
@@ -66,10 +66,10 @@ pub record IsMeasured (due : ChangeResult) (s : Session) (r : Entry) (outbox : O
   pub last : outbox.numbers.last ≡ s.limits.seq
   pub holds : Holds outbox s.limits.body s.used (reply r (success change.body []) ∷ [])
 
--- what is due is this failure, whatever the debuggee says of it
-abbrev pub IsToFail : NoAnswer → ChangeResult → Session → Entry → Type 0
-IsToFail (Fails f) due s r = (why : Option Explanation) → after_change s r why due ≡ at_once (after_answering r (failing s r f why) s)
-IsToFail OutOfMemory due s r = ⊤
+-- the plan is to answer with this failure, with what the debuggee says of it
+abbrev pub IsToFail : NoAnswer → Plan → Session → Entry → Option Explanation → Type 0
+IsToFail (Fails f) plan s r why = plan ≡ at_once (after_answering r (failing s r f why) s)
+IsToFail OutOfMemory plan s r why = ⊤
 
 -- the debuggee was asked for it, and the breakpoints are those that it leaves
 pub record Changes {D : Type 0} (follows : Goes D) (due : ChangeResult) (old new : SessionState D) : Type 0 where

@@ -284,20 +284,27 @@ change_result view s _ = Err Debuggee
 
 -- ---- why the debuggee refuses
 
--- the query that a call asks, where it is one that may be refused, and what it names is there
+-- what a call queries, where the debuggee may refuse that, and what is named is there
 abbrev pub query_asked : Session → Call → Option Query
 query_asked s (call.StackTrace asked) = Some (for_frames asked.thread_id)
 query_asked s (call.Scopes number) = option_map for_scopes (object_of s.references number)
 query_asked s (call.Variables asked) = option_map for_children (object_of s.references asked.variables_reference)
 query_asked s (call.Evaluate asked) = Some (for_value (option_and_then (object_of s.references) asked.frame_id) asked.expression)
 query_asked s (call.Source number) = Some (for_content (number - 1))
-query_asked s (call.SetBreakpoints key lines) = Some (for_verified key (lines_asked s.options lines))
-query_asked s (call.SetVariable asked) = option_map (λ holder. for_assigned holder asked.name asked.value) (object_of s.references asked.variables_reference)
 query_asked s _ = None
 
+-- the same of what is queried before a change
+abbrev pub query_before : Session → Call → Option Query
+query_before s (call.SetBreakpoints key lines) = Some (for_verified key (lines_asked s.options lines))
+query_before s (call.SetVariable asked) = option_map (λ holder. for_assigned holder asked.name asked.value) (object_of s.references asked.variables_reference)
+query_before s _ = None
+
 -- what the debuggee says of it
-abbrev pub reason_for : Shown → Session → Call → Option Explanation
-reason_for view s asked = option_and_then view.why (query_asked s asked)
+abbrev pub query_reason : Shown → Session → Call → Option Explanation
+query_reason view s asked = option_and_then view.why (query_asked s asked)
+
+abbrev pub change_reason : Shown → Session → Call → Option Explanation
+change_reason view s asked = option_and_then view.why (query_before s asked)
 
 -- ---- the effects of the table
 
@@ -312,10 +319,10 @@ plan_for effect.AskParked view s r asked = at_once (after_asking_parked s r)
 plan_for effect.Disconnect view s r asked = at_once (after_disconnect s r)
 plan_for effect.EndAndDisconnect view s r asked = asking to_end (λ last. after_disconnect s r)
 plan_for effect.Terminate view s r asked = asking to_end (λ last. after_terminate s r)
-plan_for effect.Change view s r asked = after_change s r (reason_for view s asked) (change_result view s asked)
+plan_for effect.Change view s r asked = after_change s r (change_reason view s asked) (change_result view s asked)
 plan_for (effect.Resume h) view s r asked = asking (to_resume h (thread_of asked)) (after_resume h s r)
 plan_for effect.Pause view s r asked = asking to_pause (λ last. after_answering r (by_reply None last) s)
-plan_for effect.Query view s r asked = at_once (after_query s r (reason_for view s asked) (query_result view (query_of s) asked))
+plan_for effect.Query view s r asked = at_once (after_query s r (query_reason view s asked) (query_result view (query_of s) asked))
 
 -- ---- a request, and a turn
 

@@ -26,7 +26,7 @@ use Rattle.dap_query.specs.Refused.{refuses_query, objects_named}
 use Rattle.dap_plan.specs.Breakpoints.{are_too_many}
 use Rattle.dap_decision.specs.Failures.{command_of, call_in, of_known, is_early, is_initialize, waits_for_stop, lacks_thread, thread_named, lacks_reference, reference_named, lacks_source, source_named}
 use Rattle.dap_plan.specs.Handling.{refusal}
-use Rattle.dap_plan.specs.Handling.{ChangeResult, change_result, plan, fits, lines_asked, failing, reason_for, after_park, effect_of}
+use Rattle.dap_plan.specs.Handling.{ChangeResult, change_result, plan, fits, lines_asked, failing, query_reason, change_reason, after_park, effect_of}
 use Rattle.dap_decision.specs.Failures.{thread_of}
 use Rattle.dap_plan.specs.Plan.{Made, Plan, at_once, asking, after_answering}
 use Rattle.dap_outbox.specs.Draft.{Answer, success, failure, Draft, reply, emit, ask, requests_in}
@@ -134,18 +134,23 @@ holds view s r ReferencesExhausted = of_served (exhausts_numbers view s) s r (co
 holds view s r TooLarge = of_served (is_too_large view s r) s r (command_of r)
 holds view s r f = holds_before view s (command_of r) (call_in r) f
 
--- what the debuggee says of why it refuses, by what is asked
-abbrev pub reason_of_read : Shown → Session → Read Call → Option Explanation
-reason_of_read view s (Err key) = None
-reason_of_read view s (Ok asked) = reason_for view s asked
+-- what the debuggee says of why it refuses, by the effect and what is asked
+abbrev pub reason_in : Shown → Session → Effect → Call → Option Explanation
+reason_in view s effect.Query asked = query_reason view s asked
+reason_in view s effect.Change asked = change_reason view s asked
+reason_in view s _ asked = None
 
-abbrev pub reason_of_command : Shown → Session → Entry → Option Command → Option Explanation
-reason_of_command view s r None = None
-reason_of_command view s r (Some c) = reason_of_read view s (call_in r c)
+abbrev pub reason_of_effect : Shown → Session → Option Effect → Read Call → Option Explanation
+reason_of_effect view s (Some e) (Ok asked) = reason_in view s e asked
+reason_of_effect view s _ _ = None
 
--- the answer of a request that fails so: the failure, and where the debuggee refuses with the reason that it gives, if that fits
+abbrev pub reason_of_served : Shown → Session → Entry → Option Command → Option Explanation
+reason_of_served view s r None = None
+reason_of_served view s r (Some c) = reason_of_effect view s (effect_in c s.phase) (call_in r c)
+
+-- how a request that fails so is answered: where the debuggee refuses, with the reason that it gives, if that fits
 abbrev pub failure_answer : Shown → Session → Entry → Failure → Answer
-failure_answer view s r f = failing s r f (reason_of_command view s r (command_of r))
+failure_answer view s r f = failing s r f (reason_of_served view s r (command_of r))
 
 -- ---- where no test holds
 
