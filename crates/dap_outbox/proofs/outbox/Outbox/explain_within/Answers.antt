@@ -7,8 +7,8 @@ use Rattle.dap_outbox.proofs.outbox.Outbox.explain_within.Goals as goal
 pub returns-clause-writes : goal.returns-clause-writes
 returns-clause-writes c =
     let m = explained_response (c.args.self.now.numbers.used + 1) c.args.request.now.seq c.args.request.now.command c.args.told.now.show_user c.args.told.now.text in
-    let text = rw (c.as_str.ensures, c.as_str-2.ensures, c.next-seq.ensures.number) at c.in_ok-append_explained.ensures.canon in
-    let reads = rw (c.as_str.ensures, c.as_str-2.ensures, c.next-seq.ensures.number) at c.in_ok-append_explained.ensures.reads_back in
+    let text = rw (c.as_str-command.ensures, c.as_str-why.ensures, c.next-seq.ensures.number) at c.in_ok-append_explained.ensures.canon in
+    let reads = rw (c.as_str-command.ensures, c.as_str-why.ensures, c.next-seq.ensures.number) at c.in_ok-append_explained.ensures.reads_back in
     let is = c.len-end.ensures ∙ c.self.inside.buffer.ok.0 in
     let after = framed c.self.inside.buffer.items c.append_explained.new.out.items c.frame_from.new.out.items _ c.len-end.result is text c.in_ok-frame_from.ensures.ok in
     λ _. writes-behind _ c.self.inside.start c.self.inside.buffer.items c.frame_from.new.out.items c.args.self.now c.self.inside.numbers c.next-seq.result.1 _ c.self.view_is c.self.invariant
