@@ -169,10 +169,10 @@ impl Live {
     fn why_no_value(&self, text: &str) -> Result<Option<Explanation>, AllocError>
         ensures { IfOk result (λ why. why ≡ option_and_then (λ l. l.why) (told_of self.now.learned text.now)) }
     {
-        let Some(learned) = self.told(text) else {
+        let Some(told) = self.told(text) else {
             return Ok(None);
         };
-        match &learned.why {
+        match &told.why {
             None => Ok(None),
             Some(why) => Ok(Some(why.clone()?)),
         }
