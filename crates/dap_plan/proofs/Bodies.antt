@@ -141,7 +141,7 @@ failing-is-one s r f why = by (failing-is s r f why)
   where
     by : (failing s r f why ≡ failure f) ⊎ ((told : Explanation) × (f ≡ Debuggee) × (failing s r f why ≡ explained told)) → is-failure (failing s r f why) ≡ true
     by (inl e) = ap is-failure e
-    by (inr w) = ap is-failure w.1.1
+    by (inr w) = ap is-failure w.2
 
 -- nor is one with a reason
 fails-so : {A : Type 0} (s : Session) (r : Entry) (f : Failure) (why : Option Explanation) (body : Option Data) (names : List Target) → answer_to r.seq (reply r (failing s r f why) ∷ []) ≡ Some (success body names) → A

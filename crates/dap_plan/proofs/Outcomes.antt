@@ -255,7 +255,7 @@ failing-is s r _ why = inl refl
 
 answered-row : (s : Session) (k : Kept) (a : Answer) (f : Failure) → IsHandled s k → (a ≡ failure f) ⊎ ((told : Explanation) × (f ≡ Debuggee) × (a ≡ explained told)) → IsRow s (at_once (after_answering k.entry a s))
 answered-row s k a f i (inl e) = subst (λ (x : Answer). IsRow s (at_once (after_answering k.entry x s))) (sym e) (failed-row s k f i)
-answered-row s k a f i (inr w) = subst (λ (x : Answer). IsRow s (at_once (after_answering k.entry x s))) (sym w.1.1) (explained-row s k w.0 i)
+answered-row s k a f i (inr w) = subst (λ (x : Answer). IsRow s (at_once (after_answering k.entry x s))) (sym w.2) (explained-row s k w.0 i)
 
 pub failing-row : (s : Session) (k : Kept) (f : Failure) (why : Option Explanation) → IsHandled s k → IsRow s (at_once (after_answering k.entry (failing s k.entry f why) s))
 failing-row s k f why i = answered-row s k (failing s k.entry f why) f i (failing-is s k.entry f why)
