@@ -100,7 +100,7 @@ class Host:
             try:
                 self.say("learned", text=text, value=str(self.toy.sum_of(text)))
             except ValueError:
-                self.say("learned", text=text)
+                self.say("learned", text=text, why="It has a word that is neither a variable nor a number.")
 
     def hear_client(self):
         """Hands on what the client asks."""

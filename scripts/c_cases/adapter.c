@@ -120,6 +120,11 @@ static int goes(void) {
     if (!told(yt_adapter_learned(&adapter, BYTES("x + 1"), true, BYTES("42"), false, 0, &found))) return 0;
     if (!hear("{\"seq\":9,\"type\":\"request\",\"command\":\"evaluate\",\"arguments\":{\"expression\":\"x + 1\"}}")) return 0;
     CHECK(has("\"result\":\"42\""));
+    if (!told(yt_adapter_no_value(&adapter, BYTES("y +"), BYTES("no operand"), true, &found))) return 0;
+    if (!hear("{\"seq\":13,\"type\":\"request\",\"command\":\"evaluate\",\"arguments\":{\"expression\":\"y +\"}}")) return 0;
+    CHECK(has("\"message\":\"debuggee\"") && has("\"showUser\":true,\"variables\":{\"why\":\"no operand\"}"));
+    if (!hear("{\"seq\":14,\"type\":\"request\",\"command\":\"evaluate\",\"arguments\":{\"expression\":\"y +\"}}")) return 0;
+    CHECK(has("\"format\":\"The debuggee refused.\"")); /* it was known for one message */
     if (!told(yt_adapter_learned_with(&adapter, BYTES("44"), true, BYTES("44"), false, 0, BYTES("{\"type\":\"long\"}"), &found))) return 0;
     if (!hear("{\"seq\":10,\"type\":\"request\",\"command\":\"setVariable\",\"arguments\":{\"variablesReference\":3,\"name\":\"x\",\"value\":\"44\"}}")) return 0;
     CHECK(has("\"value\":\"44\"") && has("\"type\":\"long\""));
@@ -167,6 +172,7 @@ static void nothing_is_held(void) {
     CHECK(yt_adapter_continued(&adapter, 1, &found) == YT_NONE && yt_adapter_exited(&adapter, 1, &found) == YT_NONE);
     CHECK(yt_adapter_learned(&adapter, BYTES("x"), true, BYTES("y"), false, 0, &found) == YT_NONE);
     CHECK(yt_adapter_learned_with(&adapter, BYTES("x"), true, BYTES("y"), false, 0, BYTES("{}"), &found) == YT_NONE);
+    CHECK(yt_adapter_no_value(&adapter, BYTES("x"), BYTES("y"), false, &found) == YT_NONE);
     CHECK(yt_adapter_variable_with(&adapter, BYTES("x"), BYTES("y"), false, 0, BYTES("{}")) == YT_NONE);
     CHECK(yt_adapter_variable(&adapter, BYTES("x"), BYTES("y"), false, 0) == YT_NONE && yt_adapter_variables(&adapter, 1, &found) == YT_NONE);
     CHECK(yt_adapter_sources(&adapter, BYTES(BASE), &found) == YT_NONE && yt_adapter_act(&adapter, &act) == YT_NONE);
@@ -185,6 +191,7 @@ static void nothing_is_held(void) {
     CHECK(yt_adapter_variable_with(&adapter, BYTES("x"), BYTES("y"), false, 0, BYTES("[]")) == YT_BAD_ARGUMENTS);
     CHECK(yt_adapter_variable_with(&adapter, BYTES("x"), BYTES("y"), false, 0, BYTES("{\"a\":0.5}")) == YT_BAD_ARGUMENTS);
     CHECK(yt_adapter_learned_with(&adapter, BYTES("x"), true, BYTES("y"), false, 0, BYTES("{"), &found) == YT_BAD_ARGUMENTS);
+    CHECK(yt_adapter_no_value(&adapter, BYTES("x"), BYTES("\xff"), false, &found) == YT_BAD_ARGUMENTS);
     CHECK(yt_adapter_variable_with(&adapter, BYTES("x"), BYTES("y"), false, 0, NULL, 0) == YT_OK);
     CHECK(yt_adapter_take(&adapter, BYTES("Content-Length: 2\r\n\r\n[]"), &found) == YT_BODY && found.at == 0 && found.cause == 2);
     CHECK(yt_adapter_turn(&adapter, &found) == YT_BODY && yt_adapter_continued(&adapter, 1, &found) == YT_BODY);

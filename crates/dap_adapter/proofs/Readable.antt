@@ -16,7 +16,7 @@ use Rattle.dap_envelope.specs.declared.message.Kind.TheVariants.{Request, Respon
 use Rattle.dap_tables.specs.declared.entry.Entry.{Entry as Kept}
 use Rattle.dap_outbox.specs.InRange.{IsRequestInRange, AnswersInRange}
 use Rattle.dap_plan.specs.Plan.{Made, references_end_if, entries_of}
-use Rattle.dap_outbox.specs.Draft.{Answer, success, failure, Draft, reply, emit, ask, message_of, names_of, numbered_messages, outs}
+use Rattle.dap_outbox.specs.Draft.{Answer, success, failure, explained, Draft, reply, emit, ask, message_of, names_of, numbered_messages, outs}
 use Rattle.dap_adapter.specs.AdapterState.{AdapterState}
 use Rattle.dap_adapter.specs.StandsFor.{StandsFor, GoesOn}
 
@@ -94,6 +94,7 @@ answered-in-range r qs a w =
 answer-in-range : (n : ℕ) (r : Kept) (answer : Answer) (qs : List Asked) → AreAskedInRange qs → AnswersOne qs (response_at Came (Out (message_of n (reply r answer)) (names_of (reply r answer)))) → IsRequestInRange r
 answer-in-range n r (success body names) qs a w = answered-in-range r qs a w
 answer-in-range n r (failure f) qs a w = answered-in-range r qs a w
+answer-in-range n r (explained w) qs a w = answered-in-range r qs a w
 
 moved : (before : List Entry) (e : Entry) (after all : List Entry) → before ++ e ∷ after ≡ all → (before ++ e ∷ []) ++ after ≡ all
 moved before e after all is = append_assoc before (e ∷ []) after ∙ is

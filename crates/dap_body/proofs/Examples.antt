@@ -6,7 +6,7 @@ use Rattle.serde_json.specs.Data.{boolean, negative, number, string, array, obje
 use Rattle.serde_json.specs.Written.{compact_text}
 use Rattle.dap_json.specs.Put.{whole_number}
 use Rattle.dap_command.specs.declared.key.Key.TheVariants as key
-use Rattle.dap_body.specs.Failure.{row_of, failures_in_order, failure_body}
+use Rattle.dap_body.specs.Failure.{row_of, failures_in_order, failure_body, explained_body}
 use Rattle.dap_body.specs.ResponseBody.{set_breakpoints_body, threads_body, continue_body, stack_trace_body, scopes_body, variables_body, evaluate_body, set_variable_body, source_body, loaded_sources_body}
 use Rattle.dap_json.specs.declared.more.Member.{Member}
 use Rattle.dap_body.specs.EventBody.{output_body, stopped_body, continued_body, exited_body}
@@ -52,6 +52,15 @@ fifteen_in_order = refl
 
 a_refusal_of_the_debuggee : row_of Debuggee ≡ record { id = 1013; name = codes "debuggee"; format = codes "The debuggee refused." }
 a_refusal_of_the_debuggee = refl
+
+-- with what the debuggee says of it
+text_with_a_reason : compact_text (explained_body false (codes "no \"x\"")) ≡ codes "{\"error\":{\"format\":\"{why}\",\"id\":1013,\"variables\":{\"why\":\"no \\\"x\\\"\"}}}"
+unfolding escape_byte digits
+text_with_a_reason = refl
+
+text_for_the_user : compact_text (explained_body true []) ≡ codes "{\"error\":{\"format\":\"{why}\",\"id\":1013,\"showUser\":true,\"variables\":{\"why\":\"\"}}}"
+unfolding escape_byte digits
+text_for_the_user = refl
 
 -- ---- responses
 

@@ -33,7 +33,7 @@ use Rattle.dap_body.specs.declared.body.Body.TheVariants.{Initialize, SetBreakpo
 use Rattle.dap_body.specs.EventBody.{output_fields, output_row, stopped_fields, stopped_row, continued_row, exited_row}
 use Rattle.dap_body.specs.ResponseBody.{breakpoint, thread_fields, thread, source_fields, source, stack_frame_fields, stack_frame, scope_fields, scope, variable_fields, variable, evaluate_fields, evaluate_row, set_variable_fields, set_variable_row, set_breakpoints_row, threads_row, stack_trace_row, scopes_row, variables_row, loaded_sources_row, run_in_terminal_row}
 use Rattle.dap_body.specs.Row.{Field, Row, Value, text, whole, integer, flag, tree, text_if_any, whole_if_any, tree_if_any, value_data, with_member, members_of, object_of, list_of}
-use Rattle.dap_body.specs.PlainBodies.{IsPlain, ResponseBodiesArePlain, FailureBodiesArePlain, EventBodiesArePlain}
+use Rattle.dap_body.specs.PlainBodies.{IsPlain, ResponseBodiesArePlain, FailureBodiesArePlain, ExplainedBodiesArePlain, EventBodiesArePlain}
 use Rattle.dap_body.specs.declared.response.Thread.{Thread}
 use Rattle.dap_body.specs.declared.response.Source.{Source}
 use Rattle.dap_body.specs.declared.response.Scope.{Scope}
@@ -231,6 +231,10 @@ response_bodies_are_plain = record {
 
 pub failure_bodies_are_plain : FailureBodiesArePlain
 failure_bodies_are_plain failure = refl
+
+pub explained_bodies_are_plain : ExplainedBodiesArePlain
+explained_bodies_are_plain true why = refl
+explained_bodies_are_plain false why = refl
 
 pub event_bodies_are_plain : EventBodiesArePlain
 event_bodies_are_plain = record {

@@ -1,13 +1,13 @@
 -- What the builders give can stand in a message: it is not null, has no floats and nests at most 120 deep.
 -- That a message with such a body can be written is this profile's choice.
-use Rattle.std.specs.Prelude.{ℕ, ℤ, List, Option, IsTrue, Some}
+use Rattle.std.specs.Prelude.{ℕ, ℤ, List, Bool, Option, IsTrue, Some}
 use Rattle.serde_json.specs.Data.{Data}
 use Rattle.dap_json.specs.Writable.{is_plain_tree}
 use Rattle.dap_json.specs.declared.more.Member.{Member}
 use Rattle.dap_command.specs.Capabilities.{capabilities_data}
 use Rattle.dap_command.specs.declared.capabilities.Capabilities.{Capabilities}
 use Rattle.dap_body.specs.EventBody.{output_body, stopped_body, continued_body, exited_body}
-use Rattle.dap_body.specs.Failure.{failure_body}
+use Rattle.dap_body.specs.Failure.{failure_body, explained_body}
 use Rattle.dap_body.specs.ResponseBody.{set_breakpoints_body, threads_body, continue_body, stack_trace_body, scopes_body, variables_body, set_variable_body, evaluate_body, source_body, loaded_sources_body, run_in_terminal_body}
 use Rattle.dap_body.specs.declared.failure.Failure.{Failure}
 use Rattle.dap_body.specs.declared.response.Breakpoint.{Breakpoint}
@@ -36,6 +36,9 @@ pub record ResponseBodiesArePlain : Type 0 where
 
 abbrev pub FailureBodiesArePlain : Type 0
 FailureBodiesArePlain = (failure : Failure) → IsPlain (failure_body failure)
+
+abbrev pub ExplainedBodiesArePlain : Type 0
+ExplainedBodiesArePlain = (show_user : Bool) (why : List ℕ) → IsPlain (explained_body show_user why)
 
 pub record EventBodiesArePlain : Type 0 where
   pub output : (category output : List ℕ) (more : List Member) → IsPlain (output_body category output more)

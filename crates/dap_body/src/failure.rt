@@ -6,9 +6,9 @@ ghost use Rattle.std.specs.Prelude.{◌≡◌, ◌++◌, IfOk, IfErr, OnOk, OnEr
 ghost use Rattle.serde_json.specs.View.{view};
 ghost use Rattle.serde_json.specs.Written.{compact_text};
 ghost use Rattle.dap_json.specs.Sound.{IsSound};
-ghost use Rattle.dap_body.specs.Failure.{bad_argument_format, error_body, failure_body, row_of};
+ghost use Rattle.dap_body.specs.Failure.{bad_argument_format, error_body, explained_body, failure_body, row_of};
 
-use crate::row::{Fields, append_object, put_object, put_short, put_str};
+use crate::row::{Fields, append_object, put_flag_if_set, put_object, put_short, put_str};
 use dap_command::Key;
 use json::Writer;
 use serde_json::{Map, Value, put};
@@ -213,4 +213,76 @@ pub fn append_failure_body(
         Ok(format) => append_error(alloc, out, id, format),
         Err(key) => append_error(alloc, out, id, bad_argument(alloc, key)?.as_str()),
     }
+}
+
+// ---- why the debuggee refused
+
+/// The object at `variables`: the one that the format names.
+#[derive(Drop)]
+struct Variables<'e> {
+    why: &'e str,
+}
+
+impl<'e> Fields for Variables<'e> {
+    ghost use Rattle.dap_body.specs.Failure.{variables_row};
+
+    ghost written = { λ variables. variables_row variables.why.now };
+
+    fn write(&self, out: &mut Writer) -> Result<(), AllocError> {
+        put_str(out, "why", self.why)
+    }
+}
+
+/// The object at `error`: that the client puts the text in the place of the format, and whether its user sees it.
+#[derive(Drop)]
+struct ExplainedCause<'e> {
+    show_user: bool,
+    variables: Variables<'e>,
+}
+
+impl<'e> Fields for ExplainedCause<'e> {
+    ghost use Rattle.dap_body.specs.Failure.{explained_cause_row};
+
+    ghost written = { λ cause. explained_cause_row cause.show_user cause.variables.why.now };
+
+    fn write(&self, out: &mut Writer) -> Result<(), AllocError> {
+        put_str(out, "format", "{why}")?;
+        put_short(out, "id", Failure::Debuggee.id())?;
+        put_flag_if_set(out, "showUser", self.show_user)?;
+        put_object(out, "variables", &self.variables)
+    }
+}
+
+#[derive(Drop)]
+struct ExplainedBody<'e> {
+    error: ExplainedCause<'e>,
+}
+
+impl<'e> Fields for ExplainedBody<'e> {
+    ghost use Rattle.dap_body.specs.Failure.{explained_row};
+
+    ghost written = { λ body. explained_row body.error.show_user body.error.variables.why.now };
+
+    fn write(&self, out: &mut Writer) -> Result<(), AllocError> {
+        put_object(out, "error", &self.error)
+    }
+}
+
+/// Appends the text of the body of the failure `debuggee` with what the debuggee says of why it refused, or changes nothing.
+/// `showUser` is there where the client's user should see it: Specification, "Message".
+pub fn append_explained_body(
+    alloc: Global,
+    out: &mut Vec<u8>,
+    why: &str,
+    show_user: bool,
+) -> Result<(), AllocError>
+    ensures ok { OnOk result (out.new.items ≡ out.old.items ++ compact_text (explained_body show_user why.now)) }
+    ensures sound { OnOk result (IsSound (explained_body show_user why.now)) }
+    ensures err { OnErr result (out.new.items ≡ out.old.items) }
+{
+    let error = ExplainedCause {
+        show_user,
+        variables: Variables { why },
+    };
+    append_object(alloc, out, &ExplainedBody { error })
 }

@@ -1,7 +1,7 @@
 //! Laws of the definitions, each on a function with nothing to run.
 ghost use Rattle.dap_body.specs.GivenNumbers.{BodiesGiveTheirNumbers};
 ghost use Rattle.dap_body.specs.BesideLaws.{MoreIsBeside, OwnFieldsAreInOrder};
-ghost use Rattle.dap_body.specs.PlainBodies.{EventBodiesArePlain, FailureBodiesArePlain, ResponseBodiesArePlain};
+ghost use Rattle.dap_body.specs.PlainBodies.{EventBodiesArePlain, ExplainedBodiesArePlain, FailureBodiesArePlain, ResponseBodiesArePlain};
 ghost use Rattle.dap_body.specs.ReadAgain.{WhatIsWrittenIsReadAgain};
 
 /// What the builders of bodies give can stand in a message that is written, however long its lists
@@ -9,6 +9,7 @@ ghost use Rattle.dap_body.specs.ReadAgain.{WhatIsWrittenIsReadAgain};
 pub fn bodies_are_plain()
     ensures responses { ResponseBodiesArePlain }
     ensures failures { FailureBodiesArePlain }
+    ensures explained { ExplainedBodiesArePlain }
     ensures events { EventBodiesArePlain }
 {}
 

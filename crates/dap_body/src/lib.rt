@@ -21,7 +21,7 @@ pub use body::{Body, append_body};
 pub use event::{
     EventBody, append_event_body, body_continued, body_exited, body_output, body_stopped,
 };
-pub use failure::{Failure, append_failure_body, body_failure};
+pub use failure::{Failure, append_explained_body, append_failure_body, body_failure};
 pub use response::{
     Breakpoint, Scope, Source, StackFrame, Thread, Variable, body_continue, body_evaluate,
     body_loaded_sources, body_scopes, body_set_breakpoints, body_set_variable, body_source,

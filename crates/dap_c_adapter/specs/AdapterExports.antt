@@ -152,6 +152,10 @@ abbrev pub TellsLearned : List ℕ → List ℕ → Bool → Bool → ℕ → �
 TellsLearned asked value known has_parts holder code found old new =
     TellsWhere (λ told. told ≡ said.Learned asked (if known then Some value else None) (if has_parts then Some holder else None) None) code found old new
 
+-- a text has no value, and why
+abbrev pub TellsNoValue : List ℕ → List ℕ → Bool → ℕ → YtFound → HeldAdapter → HeldAdapter → Type 0
+TellsNoValue asked why show_user code found old new = TellsWhere (λ told. told ≡ said.NoValue asked (record { text = why; show_user = show_user })) code found old new
+
 -- with what is said beside the value
 abbrev pub TellsLearnedWith : List ℕ → List ℕ → Bool → Bool → ℕ → List ℕ → ℕ → YtFound → HeldAdapter → HeldAdapter → Type 0
 TellsLearnedWith asked value known has_parts holder more code found old new =

@@ -2,7 +2,7 @@
 //!
 //! It is of the same kind as `dap_c`, whose head says how. The host is not called: it fetches what it has to do, and says what
 //! happened. A file a concern: `adapter` has the session, `telling` what the host says, `beside` what it says beside that,
-//! `acts` what it has to do.
+//! `no_value` why a text has none, `acts` what it has to do.
 #![tactic(auto)]
 
 mod acts;
@@ -12,6 +12,7 @@ mod adapter_layout;
 mod adapter_state;
 mod beside;
 mod held_adapter;
+mod no_value;
 mod telling;
 
 pub use acts::{
@@ -26,6 +27,7 @@ pub use adapter_layout::{YtAdapterSizes, yt_adapter_sizes_of};
 pub use adapter_state::{YtAdapterSeen, YtTarget, yt_adapter_state, yt_adapter_target};
 pub use beside::{yt_adapter_learned_with, yt_adapter_variable_with};
 pub use held_adapter::HeldAdapter;
+pub use no_value::yt_adapter_no_value;
 pub use telling::{
     yt_adapter_continued, yt_adapter_exited, yt_adapter_learned, yt_adapter_output,
     yt_adapter_sources, yt_adapter_stopped, yt_adapter_variable, yt_adapter_variables,

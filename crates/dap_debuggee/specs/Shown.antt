@@ -15,6 +15,9 @@ use Rattle.dap_debuggee.specs.declared.answers.Variable.{Variable}
 use Rattle.dap_debuggee.specs.declared.answers.Evaluation.{Evaluation}
 use Rattle.dap_debuggee.specs.declared.answers.Assigned.{Assigned}
 use Rattle.dap_debuggee.specs.declared.answers.Source.{Source}
+use Rattle.dap_debuggee.specs.declared.explanation.Explanation.{Explanation}
+use Rattle.dap_debuggee.specs.declared.explanation.RefusedQuery.{RefusedQuery}
+use Rattle.dap_debuggee.specs.declared.explanation.RefusedQuery.TheVariants.{Frames, Scopes, Children, Evaluate, Assigned as AssignedBy, Content, Verify}
 
 abbrev pub category_name : Category → List ℕ
 category_name Console = codes "console"
@@ -55,6 +58,26 @@ pub record Last : Type 0 where
   pub asked : Asked
   pub reply : Reply
 
+-- what may be refused, with what is asked
+pub data Query : Type 0 where
+  for_frames : ℤ → Query
+  for_scopes : ℕ → Query
+  for_children : ℕ → Query
+  for_value : Option ℕ → List ℕ → Query
+  for_assigned : ℕ → List ℕ → List ℕ → Query
+  for_content : ℕ → Query
+  for_verified : SourceKey → List ℕ → Query
+
+-- as it is lent
+abbrev pub query_lent : RefusedQuery → Query
+query_lent (Frames thread) = for_frames thread
+query_lent (Scopes frame) = for_scopes frame
+query_lent (Children holder) = for_children holder
+query_lent (Evaluate frame text) = for_value frame text.now
+query_lent (AssignedBy holder name text) = for_assigned holder name.now text.now
+query_lent (Content index) = for_content index
+query_lent (Verify source lines) = for_verified source.now lines.now
+
 -- A query that is refused has no answer.
 pub record Shown : Type 0 where
   pub state : State
@@ -79,6 +102,8 @@ pub record Shown : Type 0 where
   pub content : ℕ → Option (List ℕ)
   -- of each line asked whether a breakpoint can stand there
   pub verify : SourceKey → List ℕ → Option (List Bool)
+  -- why a query is refused, where that is said; no law speaks of it
+  pub why : Query → Option Explanation
 
 -- a part of a list: from the place `start` on, counted from 0, at most `count` elements where `count` is above 0
 abbrev pub window : {A : Type 0} → ℕ → ℕ → List A → List A

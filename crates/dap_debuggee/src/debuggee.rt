@@ -8,6 +8,7 @@ ghost use Rattle.std.specs.Prelude.{◌≡◌, IfOk, OnOk};
 use crate::answers::{
     Assigned, DebuggeeFault, Evaluation, Frame, Happening, How, Scope, Source, Thread, Variable,
 };
+use crate::explanation::{Explanation, RefusedQuery};
 use dap_command::SourceKey;
 use dap_json::Text;
 use std::alloc::{AllocError, Global};
@@ -24,7 +25,7 @@ pub trait Debuggee {
     ghost use Rattle.std.specs.Prelude.{◌≡◌, IfOk, OnOk, OnErr, IsTrue, option_map};
     ghost use Rattle.std.specs.List.{slice_get};
     ghost use Rattle.std.specs.Option.{IsSome};
-    ghost use Rattle.dap_debuggee.specs.Shown.{Shown, Act, Reply, to_start, to_resume, to_pause, to_poll, to_set_breakpoints, to_assign, to_end, done, happened, window};
+    ghost use Rattle.dap_debuggee.specs.Shown.{Shown, Act, Reply, to_start, to_resume, to_pause, to_poll, to_set_breakpoints, to_assign, to_end, done, happened, query_lent, window};
     ghost use Rattle.dap_debuggee.specs.Laws.{Replies, AnswersQuery, Counts, Remembers, Answers, Moves, SetsLines, SetsValues, KeepsAnswers, KeepsFrames, KeepsSources, Stands, is_short, NoThreads, ThreadsInRange, FramesInRange, NamesOneFrame, SourcesInRange, VerifiesEach, AssignsVariables};
 
     /// What a view shows.
@@ -168,6 +169,11 @@ pub trait Debuggee {
         lines: &[u32],
     ) -> Result<Vec<bool>, DebuggeeFault>
         ensures { AnswersQuery result (λ answers. answers.items) ((shown self.now).verify source.now lines.now) };
+
+    /// Why a query was refused, which the client is told with the failure. Asked once that query was refused, with nothing asked
+    /// meanwhile: say why in words, of just what was asked, or give `None`. Nothing rests on it, and it may change at any time.
+    fn why(&self, alloc: Global, query: RefusedQuery<'_>) -> Result<Option<Explanation>, AllocError>
+        ensures { IfOk result (λ told. told ≡ (shown self.now).why (query_lent query.entry)) };
 
     /// Each act is counted, modulo 18446744073709551616.
     ghost counts: { Counts shown follows };

@@ -8,6 +8,7 @@
 
 mod answers;
 mod debuggee;
+mod explanation;
 mod mail;
 
 pub use answers::{
@@ -15,4 +16,5 @@ pub use answers::{
     State, Thread, Variable,
 };
 pub use debuggee::Debuggee;
+pub use explanation::{Explanation, RefusedQuery};
 pub use mail::HasMail;

@@ -42,6 +42,7 @@ unheard_over (coming.Stopped reason thread shows later more) mail v = refl
 unheard_over (coming.Continued thread) mail v = refl
 unheard_over (coming.Exited code) mail v = refl
 unheard_over (coming.Learned text value holder more) mail v = refl
+unheard_over (coming.NoValue text why) mail v = refl
 unheard_over (coming.Variables holder variables) mail v = refl
 unheard_over (coming.Sources more) mail v = refl
 

@@ -21,6 +21,7 @@ IsComing sources (told.Stopped reason thread moment later more) c = (shows : Mom
 IsComing sources (told.Continued thread) c = c ≡ coming.Continued thread
 IsComing sources (told.Exited code) c = c ≡ coming.Exited code
 IsComing sources (told.Learned text value holder more) c = c ≡ coming.Learned text value holder more
+IsComing sources (told.NoValue text why) c = c ≡ coming.NoValue text why
 IsComing sources (told.Variables holder variables) c = c ≡ coming.Variables holder variables
 IsComing sources (told.Loaded more) c = (read : List RecordedSource) × (sources_of more ≡ Ok read) × (c ≡ coming.Sources read)
 

@@ -16,7 +16,7 @@ use Rattle.dap_json.specs.Steps.{◌>>=◌, Returns}
 use Rattle.dap_recording.specs.Reading.{exit_of}
 use Rattle.dap_line.specs.Written.{host_key_name}
 use Rattle.dap_line.specs.declared.refusal.HostKey.{HostKey}
-use Rattle.dap_line.specs.declared.refusal.HostKey.TheVariants.{Happened, Category, Output, Reason, Thread, Moment, Code, Text, Value, Later, Holder, Variables, Name, Asked, Number, Sources, More}
+use Rattle.dap_line.specs.declared.refusal.HostKey.TheVariants.{Happened, Category, Output, Reason, Thread, Moment, Code, Text, Value, Later, Holder, Variables, Name, Asked, Number, Sources, More, Why, ShowUser}
 use Rattle.dap_line.specs.declared.refusal.Refusal.{Refusal}
 use Rattle.dap_line.specs.declared.refusal.Refusal.TheVariants.{NotJson, BadKey}
 use Rattle.dap_line.specs.declared.told.Kind.{Kind}
@@ -147,9 +147,22 @@ variables_in d t = do
   variables ← variables_of (as_array d)
   Ok (told.Variables holder variables)
 
+-- that a text has no value, and why; the client's user need not see it where nothing is said of that
+unfoldable pub no_value_in : Data → Read Told
+no_value_in d = do
+  text ← required_at as_str Text d
+  why ← required_at as_str Why d
+  show_user ← optional_or as_bool false ShowUser d
+  Ok (told.NoValue text (record { text = why; show_user = show_user }))
+
+-- why a text has no value counts where it has none
+abbrev pub text_by : Option Data → Option Data → Data → Read Told
+text_by None (Some why) t = no_value_in t
+text_by value why t = learned_in t
+
 -- the variables of a holder where there are some, else what a text comes to
 abbrev pub learned_by : Option Data → Data → Read Told
-learned_by None t = learned_in t
+learned_by None t = text_by (value_at Value t) (value_at Why t) t
 learned_by (Some d) t = variables_in d t
 
 unfoldable pub loaded_in : Data → Read Told
@@ -237,5 +250,6 @@ happening_of (told.Stopped reason thread moment later more) = happening.Stopped 
 happening_of (told.Continued thread) = happening.Continued thread
 happening_of (told.Exited code) = happening.Exited code
 happening_of (told.Learned text value holder more) = happening.Nothing
+happening_of (told.NoValue text why) = happening.Nothing
 happening_of (told.Variables holder variables) = happening.Nothing
 happening_of (told.Loaded sources) = happening.Nothing

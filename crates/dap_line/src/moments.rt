@@ -78,6 +78,7 @@ pub fn coming_of(texts: &mut Texts, sources: &Sources, told: Told) -> Result<Com
             holder,
             more,
         }),
+        Told::NoValue { text, why } => Ok(Coming::NoValue { text, why }),
         Told::Variables { holder, variables } => Ok(Coming::Variables { holder, variables }),
         Told::Loaded { sources: more } => match sources_in(texts, &more) {
             Ok(read) => Ok(Coming::Sources(read)),

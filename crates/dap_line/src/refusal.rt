@@ -28,6 +28,8 @@ pub enum HostKey {
     Number,
     Sources,
     More,
+    Why,
+    ShowUser,
 }
 
 impl HostKey {
@@ -55,6 +57,8 @@ impl HostKey {
             HostKey::Number => "number",
             HostKey::Sources => "sources",
             HostKey::More => "more",
+            HostKey::Why => "why",
+            HostKey::ShowUser => "showUser",
         }
     }
 }

@@ -6,12 +6,12 @@ ghost use Rattle.dap_json.specs.Lent.{lent_data};
 ghost use Rattle.dap_json.specs.More.{more_of};
 ghost use Rattle.dap_json.specs.Numbers.{number_of};
 ghost use Rattle.dap_line.specs.Told.{Gives, GivesList, Tells, value_at, required_at, optional_at, optional_or, category_of, category_named as category_of_name, variable_of, each_variable, variables_of as variables_of_items, variables_in as variables_told, learned_by as learned_of_key, loaded_in as loaded_of};
-ghost use Rattle.dap_line.specs.Told.{output_in as output_of, stop_in as stop_of, continued_in as continued_of, exit_in as exit_of, learned_in as learned_of, kind_named as kind_of_name, kind_of, told_in as told_of, happening_of, question_named as question_of_name, question_of, asked_in as asked_of, happened_in as happened_of, said_in as said_of};
+ghost use Rattle.dap_line.specs.Told.{output_in as output_of, stop_in as stop_of, continued_in as continued_of, exit_in as exit_of, learned_in as learned_of, no_value_in as no_value_of, text_by as text_of_keys, kind_named as kind_of_name, kind_of, told_in as told_of, happening_of, question_named as question_of_name, question_of, asked_in as asked_of, happened_in as happened_of, said_in as said_of};
 ghost use Rattle.std.specs.Option.{is_some};
 
 use crate::reading::read_value;
 use crate::refusal::{HostKey, Refusal};
-use dap_debuggee::{Category, Happening, Variable};
+use dap_debuggee::{Category, Explanation, Happening, Variable};
 use dap_json::object_reader::Scratch;
 use dap_json::property::Property;
 use dap_json::{List, More, ParseFault, Text, Tree, field};
@@ -45,6 +45,10 @@ pub enum Told {
         value: Option<Text>,
         holder: Option<u64>,
         more: Option<More>,
+    },
+    NoValue {
+        text: Text,
+        why: Explanation,
     },
     Variables {
         holder: u64,
@@ -280,6 +284,30 @@ fn learned_in(alloc: Global, told: &Value) -> Result<Told, Unread>
     })
 }
 
+#[tactic(auto, unfolding(crate::specs::Told::no_value_in))]
+fn no_value_in(alloc: Global, told: &Value) -> Result<Told, Unread>
+    ensures { Gives result (no_value_of (view told.now)) }
+{
+    let text = text_at(alloc, told, HostKey::Text)?;
+    let words = text_at(alloc, told, HostKey::Why)?;
+    let show_user = at(told, HostKey::ShowUser).flag_or(false)?;
+    let why = Explanation {
+        text: words,
+        show_user,
+    };
+    Ok(Told::NoValue { text, why })
+}
+
+/// What a text comes to, or why it has no value.
+fn text_by(alloc: Global, told: &Value) -> Result<Told, Unread>
+    ensures { Gives result (text_of_keys (value_at HostKey.Value (view told.now)) (value_at HostKey.Why (view told.now)) (view told.now)) }
+{
+    match (at(told, HostKey::Value).found, at(told, HostKey::Why).found) {
+        (None, Some(_)) => no_value_in(alloc, told),
+        _ => learned_in(alloc, told),
+    }
+}
+
 /// The variables of a holder.
 #[tactic(auto, unfolding(crate::specs::Told::variables_in))]
 fn variables_in(alloc: Global, value: &Value, told: &Value) -> Result<Told, Unread>
@@ -295,7 +323,7 @@ fn learned_by(alloc: Global, told: &Value) -> Result<Told, Unread>
     ensures { Gives result (learned_of_key (value_at HostKey.Variables (view told.now)) (view told.now)) }
 {
     match at(told, HostKey::Variables).found {
-        None => learned_in(alloc, told),
+        None => text_by(alloc, told),
         Some(value) => variables_in(alloc, value, told),
     }
 }
@@ -451,8 +479,9 @@ pub fn happening_in(told: &Told) -> Result<Happening, AllocError>
         }),
         Told::Continued { thread } => Ok(Happening::Continued { thread: *thread }),
         Told::Exited { code } => Ok(Happening::Exited { code: *code }),
-        Told::Learned { .. } | Told::Variables { .. } | Told::Loaded { .. } => {
-            Ok(Happening::Nothing)
-        }
+        Told::Learned { .. }
+        | Told::NoValue { .. }
+        | Told::Variables { .. }
+        | Told::Loaded { .. } => Ok(Happening::Nothing),
     }
 }

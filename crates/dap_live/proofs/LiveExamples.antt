@@ -47,14 +47,14 @@ told = (refl, refl, refl)
 -- ---- what is shown
 
 abbrev sum : Option Learned
-sum = Some (record { text = codes "x + 1"; value = Some (codes "2"); holder = None; more = None })
+sum = Some (record { text = codes "x + 1"; value = Some (codes "2"); holder = None; more = None; why = None })
 
 -- its parts are what holder 7 has
 abbrev pair : Option Learned
-pair = Some (record { text = codes "p"; value = Some (codes "{..}"); holder = Some 7; more = None })
+pair = Some (record { text = codes "p"; value = Some (codes "{..}"); holder = Some 7; more = None; why = None })
 
 abbrev none : Option Learned
-none = Some (record { text = codes "y"; value = None; holder = Some 7; more = None })
+none = Some (record { text = codes "y"; value = None; holder = Some 7; more = None; why = None })
 
 texts : (told_of sum (codes "x + 1") ≡ sum) × (told_of sum (codes "x") ≡ None) × (told_of None (codes "x") ≡ None) × (told_of none (codes "y") ≡ none) × (told_of none (codes "x") ≡ None)
 texts = (refl, refl, refl, refl, refl)
@@ -131,7 +131,7 @@ values_set = (refl, refl, refl, refl, refl)
 
 -- what is said beside a value is told of it, and of a variable that gets it; where nothing is said, that of the variable stays
 abbrev typed : List Member → Option Learned
-typed more = Some (record { text = codes "x + 1"; value = Some (codes "2"); holder = None; more = Some more })
+typed more = Some (record { text = codes "x + 1"; value = Some (codes "2"); holder = None; more = Some more; why = None })
 
 abbrev has : List Member → Option (List Variable)
 has more = Some (record { name = codes "x"; value = codes "1"; holder = None; more = more } ∷ [])
@@ -143,7 +143,7 @@ beside more other = (refl, refl, refl)
 
 -- stopped, with a value of a text, after this was said
 abbrev at_stop : Bool → Option Coming → LiveState
-at_stop later said = let fresh : LiveState = fresh_live (source ∷ []) in record fresh { state = Stopped; here = shows later; learned = Some (record { text = codes "9"; value = Some (codes "9"); holder = None; more = None }); mail = record { coming = said; acts = act.Start ∷ []; dropped = Some Told } }
+at_stop later said = let fresh : LiveState = fresh_live (source ∷ []) in record fresh { state = Stopped; here = shows later; learned = Some (record { text = codes "9"; value = Some (codes "9"); holder = None; more = None; why = None }); mail = record { coming = said; acts = act.Start ∷ []; dropped = Some Told } }
 
 abbrev at : State → Option Coming → LiveState
 at state said = let stop : LiveState = at_stop true said in record stop { state = state }
@@ -190,7 +190,7 @@ ends_once : (with_end (with_end (with_act act.Pause no_mail)) ≡ with_act act.E
 ends_once = (refl, refl, refl)
 
 -- what was learned is forgotten by a poll, whatever came; a pause does not
-forgets : (learned_after to_poll (at Stopped (Some seven)) ≡ None) × (learned_after to_poll (at Stopped (Some halt)) ≡ None) × (learned_after to_poll (at Stopped None) ≡ None) × (learned_after to_poll (at Stopped (Some sum_is)) ≡ sum) × (learned_after to_pause (at Running None) ≡ Some (record { text = codes "9"; value = Some (codes "9"); holder = None; more = None }))
+forgets : (learned_after to_poll (at Stopped (Some seven)) ≡ None) × (learned_after to_poll (at Stopped (Some halt)) ≡ None) × (learned_after to_poll (at Stopped None) ≡ None) × (learned_after to_poll (at Stopped (Some sum_is)) ≡ sum) × (learned_after to_pause (at Running None) ≡ Some (record { text = codes "9"; value = Some (codes "9"); holder = None; more = None; why = None }))
 forgets = (refl, refl, refl, refl, refl)
 
 -- what is shown stays, or has the variables that were told

@@ -22,6 +22,7 @@ same_why (Some (coming.Stopped reason thread shows later more)) v m = refl
 same_why (Some (coming.Continued thread)) v m = refl
 same_why (Some (coming.Exited code)) v m = refl
 same_why (Some (coming.Learned text value holder more)) v m = refl
+same_why (Some (coming.NoValue text why)) v m = refl
 same_why (Some (coming.Variables holder variables)) v m = refl
 same_why (Some (coming.Sources more)) v m = refl
 
@@ -32,6 +33,7 @@ same_told (Some (coming.Stopped reason thread shows later more)) v m = refl
 same_told (Some (coming.Continued thread)) v m = refl
 same_told (Some (coming.Exited code)) v m = refl
 same_told (Some (coming.Learned text value holder more)) v m = refl
+same_told (Some (coming.NoValue text why)) v m = refl
 same_told (Some (coming.Variables holder variables)) v m = refl
 same_told (Some (coming.Sources more)) v m = refl
 

@@ -61,6 +61,7 @@ why_unheard (coming.Stopped reason thread shows later more) v = why_not_shown v.
 why_unheard (coming.Continued thread) v = why_dropped v.state (happening.Continued thread)
 why_unheard (coming.Exited code) v = why_dropped v.state (happening.Exited code)
 why_unheard (coming.Learned text value holder more) v = None
+why_unheard (coming.NoValue text why) v = None
 why_unheard (coming.Variables holder variables) v = why_untold (now_shown v.state v.here) holder
 why_unheard (coming.Sources more) v = why_no_room more v.sources
 

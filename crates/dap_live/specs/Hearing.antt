@@ -23,6 +23,7 @@ happening_by (coming.Stopped reason thread shows later more) = happening.Stopped
 happening_by (coming.Continued thread) = happening.Continued thread
 happening_by (coming.Exited code) = happening.Exited code
 happening_by (coming.Learned text value holder more) = happening.Nothing
+happening_by (coming.NoValue text why) = happening.Nothing
 happening_by (coming.Variables holder variables) = happening.Nothing
 happening_by (coming.Sources more) = happening.Nothing
 
@@ -40,7 +41,8 @@ told_by (Some c) v = unless_dropped (why_unheard c v) (happening_by c)
 
 -- nothing but what was told with it
 abbrev pub learned_with : Coming → Option Learned
-learned_with (coming.Learned text value holder more) = Some (record { text = text; value = value; holder = holder; more = more })
+learned_with (coming.Learned text value holder more) = Some (record { text = text; value = value; holder = holder; more = more; why = None })
+learned_with (coming.NoValue text why) = Some (record { text = text; value = None; holder = None; more = None; why = Some why })
 learned_with _ = None
 
 abbrev pub learned_by : Option Coming → Option Learned

@@ -272,6 +272,7 @@ may_tell_of (coming.Stopped reason thread shows later more) v =
 may_tell_of (coming.Continued thread) v = may_dropped v.state (happening.Continued thread)
 may_tell_of (coming.Exited code) v = may_dropped v.state (happening.Exited code)
 may_tell_of (coming.Learned text value holder more) v = may_nothing v.state
+may_tell_of (coming.NoValue text why) v = may_nothing v.state
 may_tell_of (coming.Variables holder variables) v = may_unless v.state happening.Nothing (why_unheard (coming.Variables holder variables) v) (λ is. may_nothing v.state)
 may_tell_of (coming.Sources more) v = may_unless v.state happening.Nothing (why_unheard (coming.Sources more) v) (λ is. may_nothing v.state)
 
@@ -440,6 +441,7 @@ heard_stays v w (coming.Stopped reason thread shows later more) (Some x) state i
 heard_stays v w (coming.Continued thread) unheard state is here k = shown_stays v w state here
 heard_stays v w (coming.Exited code) unheard state is here k = shown_stays v w state here
 heard_stays v w (coming.Learned text value holder more) unheard state is here k = shown_stays v w state here
+heard_stays v w (coming.NoValue text why) unheard state is here k = shown_stays v w state here
 heard_stays v w (coming.Variables holder variables) None state is here k = told_stays v w holder variables state is here
 heard_stays v w (coming.Variables holder variables) (Some x) state is here k = shown_stays v w state here
 heard_stays v w (coming.Sources more) unheard state is here k = shown_stays v w state here
@@ -475,6 +477,7 @@ more_stays v w (coming.Stopped reason thread shows later more) unheard are = lis
 more_stays v w (coming.Continued thread) unheard are = list_stays v w are
 more_stays v w (coming.Exited code) unheard are = list_stays v w are
 more_stays v w (coming.Learned text value holder more) unheard are = list_stays v w are
+more_stays v w (coming.NoValue text why) unheard are = list_stays v w are
 more_stays v w (coming.Variables holder variables) unheard are = list_stays v w are
 more_stays v w (coming.Sources more) None are = record {
   sources = λ index x given. ap (λ xs. slice_get (map source_shown xs) index) are ∙ shown-stay v.sources more index x given;

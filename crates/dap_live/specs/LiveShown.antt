@@ -1,7 +1,7 @@
 -- What a debuggee that a host feeds is seen as, and what it shows: what the host told last. Its mail is not shown.
 -- This profile's choice.
 use Rattle.std.specs.Prelude.{ℕ, ℤ, ◌≤◌, Bool, ◌&&◌, List, [], ◌∷◌, length, map, Option, Some, None, option_map, option_and_then, unwrap_or, bytes_eq, if◌then◌else◌}
-use Rattle.dap_debuggee.specs.Shown.{Shown, Last}
+use Rattle.dap_debuggee.specs.Shown.{Shown, Last, Query, for_assigned, for_value}
 use Rattle.dap_debuggee.specs.Laws.{variable_named}
 use Rattle.dap_debuggee.specs.declared.answers.State.{State}
 use Rattle.dap_debuggee.specs.declared.answers.State.TheVariants.{NotStarted, Running, Stopped, Gone}
@@ -11,6 +11,7 @@ use Rattle.dap_debuggee.specs.declared.answers.Scope.{Scope}
 use Rattle.dap_debuggee.specs.declared.answers.Variable.{Variable}
 use Rattle.dap_debuggee.specs.declared.answers.Evaluation.{Evaluation}
 use Rattle.dap_debuggee.specs.declared.answers.Assigned.{Assigned}
+use Rattle.dap_debuggee.specs.declared.explanation.Explanation.{Explanation}
 use Rattle.dap_recording.specs.Snapshot.{thread_shown, frames_in as frames_of, scopes_alone, children_alone, is_among}
 use Rattle.dap_recording.specs.Sources.{source_shown, text_at, lines_verified}
 use Rattle.dap_recording.specs.Variables.{variables_at, first_of, evaluation, assigned_of}
@@ -110,6 +111,12 @@ abbrev pub assigned_by : Option Learned → List ℕ → Option (List Variable) 
 assigned_by None name variables = None
 assigned_by (Some l) name variables = option_and_then (λ value. assigned_of name value l.more variables) l.value
 
+-- why a text has no value, in any frame and for any variable: what the host told of just that text
+abbrev pub why_in : Option Learned → Query → Option Explanation
+why_in learned (for_value frame text) = option_and_then (λ l. l.why) (told_of learned text)
+why_in learned (for_assigned holder name text) = option_and_then (λ l. l.why) (told_of learned text)
+why_in learned _ = None
+
 abbrev pub shown_live : LiveState → Shown
 shown_live v = record {
   state = v.state;
@@ -125,4 +132,5 @@ shown_live v = record {
   sources = map source_shown v.sources;
   content = text_at v.sources;
   verify = λ source lines. Some (lines_verified v.sources source lines);
+  why = why_in v.learned;
 }

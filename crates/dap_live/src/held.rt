@@ -2,7 +2,7 @@
 
 use crate::here::Here;
 use crate::mail::{Dropped, Mail};
-use dap_debuggee::{Asked, Happening, State};
+use dap_debuggee::{Asked, Explanation, Happening, State};
 use dap_json::{More, Text};
 use dap_recording::Sources;
 use dap_tables::SourceMap;
@@ -26,6 +26,8 @@ pub(crate) struct Learned {
     pub(crate) holder: Option<u64>,
     /// What is said beside the value.
     pub(crate) more: Option<More>,
+    /// Why it has none.
+    pub(crate) why: Option<Explanation>,
 }
 
 /// What comes of what a host says.

@@ -12,8 +12,8 @@ use crate::here::Here;
 use crate::mail::{Coming, Dropped, HostAct, Mail};
 use dap_command::SourceKey;
 use dap_debuggee::{
-    Asked, Assigned, Debuggee, DebuggeeFault, Evaluation, Frame, Happening, HasMail, How, Scope,
-    Source, State, Thread, Variable,
+    Asked, Assigned, Debuggee, DebuggeeFault, Evaluation, Explanation, Frame, Happening, HasMail,
+    How, RefusedQuery, Scope, Source, State, Thread, Variable,
 };
 use dap_json::{List, More, Text};
 use dap_recording::variables::{self, HolderMap};
@@ -104,7 +104,7 @@ fn has_room(sources: &Sources, more: &Sources) -> bool
 }
 
 impl Live {
-    ghost use Rattle.std.specs.Prelude.{◌≡◌, ◌≤◌, ◌+◌, ◌++◌, length, Some, None, OnOk, OnErr, IfOk, option_map};
+    ghost use Rattle.std.specs.Prelude.{◌≡◌, ◌≤◌, ◌+◌, ◌++◌, length, Some, None, OnOk, OnErr, IfOk, option_and_then, option_map};
     ghost use Rattle.std.specs.Option.{IsSome};
     ghost use Rattle.dap_debuggee.specs.Laws.{is_short};
     ghost use Rattle.dap_debuggee.specs.Shown.{to_set_breakpoints, to_assign, done};
@@ -172,6 +172,19 @@ impl Live {
         match &self.learned {
             Some(learned) if text == learned.text.as_str() => Some(learned),
             _ => None,
+        }
+    }
+
+    /// Why a text has no value, where the host told that.
+    fn why_no_value(&self, text: &str) -> Result<Option<Explanation>, AllocError>
+        ensures { IfOk result (λ why. why ≡ option_and_then (λ l. l.why) (told_of self.now.learned text.now)) }
+    {
+        let Some(told) = self.told(text) else {
+            return Ok(None);
+        };
+        match &told.why {
+            None => Ok(None),
+            Some(why) => Ok(Some(why.clone()?)),
         }
     }
 
@@ -356,6 +369,14 @@ impl Live {
                 value,
                 holder,
                 more,
+                why: None,
+            }))),
+            Coming::NoValue { text, why } => Ok(self.see_nothing(Some(Learned {
+                text,
+                value: None,
+                holder: None,
+                more: None,
+                why: Some(why),
             }))),
             Coming::Variables { holder, variables } => self.see_variables(holder, variables),
             Coming::Sources(more) => self.see_sources(alloc, more),
@@ -651,6 +672,18 @@ impl Debuggee for Live {
         lines: &[u32],
     ) -> Result<Vec<bool>, DebuggeeFault> {
         Ok(self.sources.verify(alloc, source, lines)?)
+    }
+
+    fn why(
+        &self,
+        _alloc: Global,
+        query: RefusedQuery<'_>,
+    ) -> Result<Option<Explanation>, AllocError> {
+        match query {
+            RefusedQuery::Evaluate { text, .. } => self.why_no_value(text),
+            RefusedQuery::Assigned { text, .. } => self.why_no_value(text),
+            _ => Ok(None),
+        }
     }
 
     ghost counts = { counts-live };

@@ -9,7 +9,7 @@ ghost use Rattle.dap_live.specs.MailState.{is_end as is_the_end};
 ghost use Rattle.dap_live.specs.PrivateHeld.{acts_held};
 
 use dap_command::SourceKey;
-use dap_debuggee::{Category, How, Variable};
+use dap_debuggee::{Category, Explanation, How, Variable};
 use dap_json::{List, More, Text};
 use dap_recording::{Snapshot, Sources};
 use std::alloc::{AllocError, Global};
@@ -54,6 +54,12 @@ pub enum Coming {
         holder: Option<u64>,
         /// What is said beside the value. `None` says nothing: a variable that gets it keeps what is said beside its own.
         more: Option<More>,
+    },
+    /// That a text has no value, and why: the reason of an `evaluate` or a `setVariable` of just that text. It is known as long as
+    /// what is learned.
+    NoValue {
+        text: Text,
+        why: Explanation,
     },
     /// The variables of a holder that has none yet, until the next stop: one of a moment of which more is told later, of a
     /// variable, or of a value. The moment's holders are counted from 0, in the order in which it was read; others are any numbers

@@ -8,7 +8,7 @@ use Rattle.dap_command.specs.declared.capabilities.Capabilities.{Capabilities}
 use Rattle.dap_command.specs.declared.key.Key.TheVariants.{SupportsRunInTerminalRequest}
 use Rattle.dap_body.specs.declared.failure.Failure.TheVariants.{NotInitialized, Unsupported, BadArguments, Cancelled}
 use Rattle.dap_envelope.specs.Canon.{tree_of, canon, response_members, event_members}
-use Rattle.dap_message.specs.MessageParts.{failure_response, success_response, event_message, initialized, output, stopped, continued, exited, event_name, event_body}
+use Rattle.dap_message.specs.MessageParts.{failure_response, explained_response, success_response, event_message, initialized, output, stopped, continued, exited, event_name, event_body}
 use Rattle.dap_message.specs.Lengths.{is_exit_code, IsWithin}
 use Rattle.dap_body.specs.Failure.{failure_body}
 use Rattle.dap_body.specs.PlainBodies.{IsPlain}
@@ -29,6 +29,11 @@ bytes_of_failures = (refl, refl)
 longest_failure : length (canon (failure_response max_seq max_seq (replicate 64 1) (BadArguments SupportsRunInTerminalRequest))) ≡ 618
 unfolding canon tree_of response_members escape_byte digits
 longest_failure = refl
+
+-- with what the debuggee says of why, for the client's user to see
+a_reason : canon (explained_response 3 2 (codes "evaluate") true (codes "no x")) ≡ codes "{\"body\":{\"error\":{\"format\":\"{why}\",\"id\":1013,\"showUser\":true,\"variables\":{\"why\":\"no x\"}}},\"command\":\"evaluate\",\"message\":\"debuggee\",\"request_seq\":2,\"seq\":3,\"success\":false,\"type\":\"response\"}"
+unfolding canon tree_of response_members escape_byte digits
+a_reason = refl
 
 nothing_to_say : canon (success_response 4 3 (codes "cancel") None) ≡ codes "{\"command\":\"cancel\",\"request_seq\":3,\"seq\":4,\"success\":true,\"type\":\"response\"}"
 unfolding canon tree_of response_members escape_byte digits

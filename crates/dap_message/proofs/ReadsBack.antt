@@ -1,23 +1,23 @@
 -- What is written of each kind of message is read again, where its numbers and its command are in range and its texts and its tree are sound.
-use Rattle.std.proofs.Common.{◌≡◌, ℕ, ◌≤◌, List, length, IsTrue, IsUtf8, true, nat_le, Option, Some, None, codes, refl, arith}
+use Rattle.std.proofs.Common.{◌≡◌, ℕ, ◌≤◌, List, length, Bool, IsTrue, IsUtf8, true, nat_le, Option, Some, None, codes, refl, arith}
 use Rattle.std.proofs.lemmas.Bool.Decides.{nat_tests}
 use Rattle.json.proofs.Printed.Utf8.{IsUtf8-are_ascii}
 use Rattle.serde_json.specs.Data.{Data}
 use Rattle.dap_json.specs.Field.{max_seq}
 use Rattle.dap_json.specs.Writable.{is_plain_tree}
 use Rattle.dap_body.specs.Body.{data_in, event_data_in}
-use Rattle.dap_body.specs.Failure.{failure_body, row_of}
+use Rattle.dap_body.specs.Failure.{failure_body, explained_body, row_of}
 use Rattle.dap_body.specs.declared.body.Body.{Body}
 use Rattle.dap_body.specs.declared.event.EventBody.{EventBody}
 use Rattle.dap_body.specs.declared.failure.Failure.{Failure}
 use Rattle.dap_body.specs.declared.failure.Failure.TheVariants.{NotInitialized, AlreadyInitialized, UnknownCommand, Unsupported, BadArguments, WrongPhase, NotStopped, UnknownThread, StaleReference, UnknownSource, Debuggee, TooManyBreakpoints, TooManyReferences, ReferencesExhausted, TooLarge, Busy, Cancelled, TerminalRefused}
 use Rattle.dap_envelope.specs.Canon.{canon}
 use Rattle.dap_envelope.specs.Laws.{WrittenIsReadAgain}
-use Rattle.dap_message.specs.MessageParts.{request_message, failure_response, success_response, event_message}
+use Rattle.dap_message.specs.MessageParts.{request_message, failure_response, explained_response, success_response, event_message}
 use Rattle.dap_envelope.specs.Meaning.{Msg}
 use Rattle.dap_envelope.specs.Refusals.{max_command}
 use Rattle.dap_envelope.specs.SoundMessage.{IsSoundTree}
-use Rattle.dap_body.proofs.PlainBodies.{failure_bodies_are_plain, body_is_plain, event_is_plain}
+use Rattle.dap_body.proofs.PlainBodies.{failure_bodies_are_plain, explained_bodies_are_plain, body_is_plain, event_is_plain}
 
 within : (n most : ℕ) → n ≤ most → nat_le n most ≡ true
 within n most h = grind (arith, nat_tests)
@@ -71,3 +71,8 @@ module _ (again : WrittenIsReadAgain) where
       → seq ≤ max_seq → request_seq ≤ max_seq → length command ≤ max_command → Msg (canon (failure_response seq request_seq command failure)) (failure_response seq request_seq command failure)
   failed-back seq r command failure u n s q a l =
       again (failure_response seq r command failure) (rw (within seq max_seq q, within r max_seq a, within (length command) max_command l) (failure_bodies_are_plain failure)) (record { texts = (u, n); tree = s })
+
+  pub explained-back : (seq request_seq : ℕ) (command : List ℕ) (show_user : Bool) (why : List ℕ) → IsUtf8 command → IsSoundTree (Some (explained_body show_user why))
+      → seq ≤ max_seq → request_seq ≤ max_seq → length command ≤ max_command → Msg (canon (explained_response seq request_seq command show_user why)) (explained_response seq request_seq command show_user why)
+  explained-back seq r command show_user why u s q a l =
+      again (explained_response seq r command show_user why) (rw (within seq max_seq q, within r max_seq a, within (length command) max_command l) (explained_bodies_are_plain show_user why)) (record { texts = (u, name-text Debuggee); tree = s })

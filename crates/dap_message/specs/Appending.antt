@@ -1,5 +1,5 @@
 -- Texts of messages that are appended to a buffer, and that each of them is read again.
-use Rattle.std.specs.Prelude.{◌≡◌, ◌≤◌, ◌++◌, ℕ, List, length, Option, Vec}
+use Rattle.std.specs.Prelude.{◌≡◌, ◌≤◌, ◌++◌, ℕ, List, length, Bool, Option, Vec}
 use Rattle.serde_json.specs.Data.{Data}
 use Rattle.dap_json.specs.Field.{max_seq}
 use Rattle.dap_body.specs.Body.{data_in, event_data_in}
@@ -10,7 +10,7 @@ use Rattle.dap_envelope.specs.Canon.{canon}
 use Rattle.dap_envelope.specs.Meaning.{Msg}
 use Rattle.dap_envelope.specs.Refusals.{max_command}
 use Rattle.dap_envelope.specs.declared.message.Message.{Message}
-use Rattle.dap_message.specs.MessageParts.{request_message, failure_response, success_response, event_message}
+use Rattle.dap_message.specs.MessageParts.{request_message, failure_response, explained_response, success_response, event_message}
 
 -- the canonical text of a message is behind what was there
 abbrev pub AddsText : {A : Type 0} → Message → Vec ℕ A → Vec ℕ A → Type 0
@@ -18,6 +18,9 @@ AddsText m old new = new.items ≡ old.items ++ canon m
 
 abbrev pub AddsFailure : {A : Type 0} → ℕ → ℕ → List ℕ → Failure → Vec ℕ A → Vec ℕ A → Type 0
 AddsFailure seq request_seq command failure old new = AddsText (failure_response seq request_seq command failure) old new
+
+abbrev pub AddsExplained : {A : Type 0} → ℕ → ℕ → List ℕ → Bool → List ℕ → Vec ℕ A → Vec ℕ A → Type 0
+AddsExplained seq request_seq command show_user why old new = AddsText (explained_response seq request_seq command show_user why) old new
 
 abbrev pub AddsAnswer : {A : Type 0} → ℕ → ℕ → List ℕ → Option Body → Vec ℕ A → Vec ℕ A → Type 0
 AddsAnswer seq request_seq command body old new = AddsText (success_response seq request_seq command (data_in body)) old new
@@ -36,6 +39,10 @@ CanonIsRead m = Msg (canon m) m
 abbrev pub FailureReadsBack : ℕ → ℕ → List ℕ → Failure → Type 0
 FailureReadsBack seq request_seq command failure =
     seq ≤ max_seq → request_seq ≤ max_seq → length command ≤ max_command → CanonIsRead (failure_response seq request_seq command failure)
+
+abbrev pub ExplainedReadsBack : ℕ → ℕ → List ℕ → Bool → List ℕ → Type 0
+ExplainedReadsBack seq request_seq command show_user why =
+    seq ≤ max_seq → request_seq ≤ max_seq → length command ≤ max_command → CanonIsRead (explained_response seq request_seq command show_user why)
 
 abbrev pub AnswerReadsBack : ℕ → ℕ → List ℕ → Option Body → Type 0
 AnswerReadsBack seq request_seq command body =

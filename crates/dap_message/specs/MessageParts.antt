@@ -4,11 +4,12 @@ use Rattle.std.specs.Prelude.{ℕ, ℤ, List, [], codes, ◌&&◌, Bool, false, 
 use Rattle.serde_json.specs.Data.{Data}
 use Rattle.dap_json.specs.declared.more.Member.{Member}
 use Rattle.dap_command.specs.Numbers.{is_number, is_none_or}
-use Rattle.dap_body.specs.Failure.{row_of, failure_body}
+use Rattle.dap_body.specs.Failure.{row_of, failure_body, explained_body}
 use Rattle.dap_body.specs.EventBody.{output_body, stopped_body, continued_body, exited_body}
 use Rattle.dap_body.specs.declared.body.Body.{Body}
 use Rattle.dap_body.specs.declared.body.Body.TheVariants.{Initialize, Continue, RunInTerminal}
 use Rattle.dap_body.specs.declared.failure.Failure.{Failure}
+use Rattle.dap_body.specs.declared.failure.Failure.TheVariants.{Debuggee}
 use Rattle.dap_envelope.specs.declared.message.Message.{Message}
 use Rattle.dap_envelope.specs.declared.message.Kind.TheVariants.{Request, Response, Event}
 
@@ -19,6 +20,11 @@ request_message seq command arguments = record { seq = seq; kind = Request comma
 
 abbrev pub failure_response : ℕ → ℕ → List ℕ → Failure → Message
 failure_response seq request_seq command failure = record { seq = seq; kind = Response request_seq false command (Some (row_of failure).name) (Some (failure_body failure)) }
+
+-- the failure of what the debuggee refused, with what it says of why: whether the client's user should see that, and the text
+abbrev pub explained_response : ℕ → ℕ → List ℕ → Bool → List ℕ → Message
+explained_response seq request_seq command show_user why =
+    record { seq = seq; kind = Response request_seq false command (Some (row_of Debuggee).name) (Some (explained_body show_user why)) }
 
 abbrev pub success_response : ℕ → ℕ → List ℕ → Option Data → Message
 success_response seq request_seq command body = record { seq = seq; kind = Response request_seq true command None body }

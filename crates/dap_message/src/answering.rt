@@ -9,13 +9,16 @@ ghost use Rattle.dap_json.specs.Sound.{IsSound};
 ghost use Rattle.dap_json.specs.Writable.{is_plain_tree};
 ghost use Rattle.dap_body.specs.Adds.{Adds};
 ghost use Rattle.dap_body.specs.Body.{data_in, event_data_in};
-ghost use Rattle.dap_body.specs.Failure.{failure_body};
+ghost use Rattle.dap_body.specs.Failure.{explained_body, failure_body};
 ghost use Rattle.dap_message.specs.PrivateAnswering.{with_body, with_arguments, end_members, response_end};
 ghost use Rattle.dap_envelope.specs.Canon.{canon, request_members, event_members, response_members};
 ghost use Rattle.dap_envelope.specs.SoundMessage.{IsSoundTree};
-ghost use Rattle.dap_message.specs.Appending.{AddsFailure, AddsAnswer, AddsEvent, AddsRequest, FailureReadsBack, AnswerReadsBack, EventReadsBack, RequestReadsBack};
+ghost use Rattle.dap_message.specs.Appending.{AddsFailure, AddsExplained, AddsAnswer, AddsEvent, AddsRequest, FailureReadsBack, ExplainedReadsBack, AnswerReadsBack, EventReadsBack, RequestReadsBack};
 
-use dap_body::{Body, EventBody, Failure, append_body, append_event_body, append_failure_body};
+use dap_body::{
+    Body, EventBody, Failure, append_body, append_event_body, append_explained_body,
+    append_failure_body,
+};
 use dap_envelope::laws::written_is_read_again;
 use dap_json::Tree;
 use dap_json::laws::what_is_read_is_sound;
@@ -111,6 +114,24 @@ fn open_failure(alloc: Global, out: &mut Vec<u8>, failure: Failure) -> Result<()
     out.reserve(ROOM)?;
     out.extend_from_slice(b"{\"body\":")?;
     append_failure_body(alloc, out, failure)?;
+    out.push(b',')?;
+    Ok(())
+}
+
+/// The same of the body of a failure that the debuggee gives a reason for.
+fn open_explained(
+    alloc: Global,
+    out: &mut Vec<u8>,
+    why: &str,
+    show_user: bool,
+) -> Result<(), AllocError>
+    ensures ok { OnOk result (out.new.items ≡ out.old.items ++ with_body (Some (explained_body show_user why.now))) }
+    ensures sound { OnOk result (IsSoundTree (Some (explained_body show_user why.now))) }
+    ensures front { take (length out.old.items) out.new.items ≡ out.old.items }
+{
+    out.reserve(ROOM)?;
+    out.extend_from_slice(b"{\"body\":")?;
+    append_explained_body(alloc, out, why, show_user)?;
     out.push(b',')?;
     Ok(())
 }
@@ -305,6 +326,35 @@ pub fn append_failure(
     let start = out.len();
     let opened = open_failure(alloc, out, failure);
     let name = failure.name();
+    let end = End::Failure {
+        seq,
+        request_seq,
+        command,
+        name,
+    };
+    close(alloc, out, start, opened, end)
+}
+
+/// Appends the text of the response to a request that the debuggee refused, with what it says of why: the failure `debuggee`, its
+/// body as by [`append_explained_body`].
+pub fn append_explained(
+    alloc: Global,
+    out: &mut Vec<u8>,
+    seq: u64,
+    request_seq: u64,
+    command: &str,
+    why: &str,
+    show_user: bool,
+) -> Result<(), AllocError>
+    ensures canon { OnOk result (AddsExplained seq request_seq command.now show_user why.now out.old out.new) }
+    ensures reads_back { OnOk result (ExplainedReadsBack seq request_seq command.now show_user why.now) }
+    ensures err { OnErr result (out.new.items ≡ out.old.items) }
+{
+    // A law for the proof: what is written is read again.
+    written_is_read_again();
+    let start = out.len();
+    let opened = open_explained(alloc, out, why, show_user);
+    let name = Failure::Debuggee.name();
     let end = End::Failure {
         seq,
         request_seq,

@@ -10,7 +10,9 @@
 mod answering;
 pub mod laws;
 
-pub use answering::{append_answer, append_event, append_failure, append_request};
+pub use answering::{
+    append_answer, append_event, append_explained, append_failure, append_request,
+};
 pub use dap_body::{
     Body, Breakpoint, EventBody, Failure, Scope, Source, StackFrame, Thread, Variable,
     body_continue, body_continued, body_evaluate, body_exited, body_failure, body_loaded_sources,

@@ -7,8 +7,10 @@ use Rattle.dap_frame.specs.Written.{frame_of}
 use Rattle.dap_envelope.specs.Canon.{canon}
 use Rattle.dap_history.specs.History.{Entry, Asked, Out}
 use Rattle.dap_tables.specs.declared.target.Target.{Target}
-use Rattle.dap_message.specs.MessageParts.{AdapterEvent, event_name, event_body, success_response, failure_response, event_message}
+use Rattle.dap_debuggee.specs.declared.explanation.Explanation.{Explanation}
+use Rattle.dap_message.specs.MessageParts.{AdapterEvent, event_name, event_body, success_response, failure_response, explained_response, event_message}
 use Rattle.dap_body.specs.declared.failure.Failure.{Failure}
+use Rattle.dap_body.specs.declared.failure.Failure.TheVariants.{Debuggee}
 use Rattle.dap_call.specs.declared.terminal.TerminalCall.{TerminalCall}
 use Rattle.dap_call.specs.Terminal.{run_in_terminal, terminal_tree}
 use Rattle.dap_envelope.specs.declared.message.Kind.TheVariants.{Request as RequestKind}
@@ -19,6 +21,8 @@ use Rattle.dap_tables.specs.declared.entry.Entry.{Entry as Request}
 pub data Answer : Type 0 where
   success : Option Data → List Target → Answer
   failure : Failure → Answer
+  -- the failure `debuggee`, with why the debuggee refused
+  explained : Explanation → Answer
 
 -- what is to be written, before it has its number
 pub data Draft : Type 0 where
@@ -30,6 +34,12 @@ pub data Draft : Type 0 where
 -- without a body
 abbrev pub plain_success : Answer
 plain_success = success None []
+
+-- which failure it is, with or without a reason
+abbrev pub failure_in : Answer → Option Failure
+failure_in (success body names) = None
+failure_in (failure f) = Some f
+failure_in (explained e) = Some Debuggee
 
 -- ---- the own request
 
@@ -46,6 +56,7 @@ own_request seq = record { seq = seq; command = run_in_terminal; arguments = Som
 abbrev pub answer_message : ℕ → Request → Answer → Message
 answer_message seq r (success body names) = success_response seq r.seq r.command body
 answer_message seq r (failure f) = failure_response seq r.seq r.command f
+answer_message seq r (explained e) = explained_response seq r.seq r.command e.show_user e.text
 
 abbrev pub message_of : ℕ → Draft → Message
 message_of seq (reply r answer) = answer_message seq r answer
@@ -55,6 +66,7 @@ message_of seq ask = record { seq = seq; kind = RequestKind run_in_terminal (Som
 abbrev pub names_in : Answer → List Target
 names_in (success body names) = names
 names_in (failure f) = []
+names_in (explained e) = []
 
 abbrev pub names_of : Draft → List Target
 names_of (reply r answer) = names_in answer

@@ -1,7 +1,7 @@
 -- What a call is about to write, behind what its buffer had before.
 use Rattle.std.specs.Prelude.{◌≡◌, ℕ, ◌+◌, ◌≤◌, List, [], ◌∷◌, ◌++◌, length, take, drop, nat_le, Bool, IsTrue, Option, Some, None}
 use Rattle.dap_json.specs.Field.{max_seq}
-use Rattle.dap_message.specs.MessageParts.{AdapterEvent, initialized, output, stopped, continued, exited, terminated, success_response}
+use Rattle.dap_message.specs.MessageParts.{AdapterEvent, initialized, output, stopped, continued, exited, terminated, success_response, explained_response}
 use Rattle.dap_body.specs.Body.{data_in}
 use Rattle.dap_message.specs.Lengths.{max_fixed, event_within}
 use Rattle.dap_envelope.specs.Canon.{canon}
@@ -9,6 +9,7 @@ use Rattle.dap_envelope.specs.ReadBack.{AllReadBack}
 use Rattle.dap_body.specs.declared.body.Body.{Body}
 use Rattle.dap_body.specs.declared.body.Body.TheVariants as body
 use Rattle.dap_debuggee.specs.Shown.{category_name}
+use Rattle.dap_debuggee.specs.declared.explanation.Explanation.{Explanation}
 use Rattle.dap_tables.specs.Seq.{Numbers}
 use Rattle.dap_tables.specs.declared.entry.Entry.{Entry as Request}
 use Rattle.dap_outbox.specs.declared.answer.Answer.{Answer}
@@ -18,7 +19,7 @@ use Rattle.dap_outbox.specs.declared.answer.Fixed.TheVariants.{Initialize, Conti
 use Rattle.dap_outbox.specs.declared.answer.Event.{Event}
 use Rattle.dap_outbox.specs.declared.answer.Event.TheVariants.{Initialized, Output, Stopped, Continued, Exited, Terminated}
 use Rattle.dap_outbox.specs.InRange.{AnswersInRange}
-use Rattle.dap_outbox.specs.Draft.{Answer as AnswerWord, success, failure, Draft, reply, emit, numbered_messages, bytes_of}
+use Rattle.dap_outbox.specs.Draft.{Answer as AnswerWord, success, failure, explained, Draft, reply, emit, numbered_messages, bytes_of}
 
 -- what the buffer had before, the bytes of the messages behind it, and the own numbers that are left after them
 pub record OutboxState : Type 0 where
@@ -91,3 +92,10 @@ AnswersIfFits most old new request given fits = IsTrue fits → AppendsDraft mos
 -- if an event with all that is said beside it has, it is told
 abbrev pub EmitsIfFits : ℕ → OutboxState → OutboxState → Event → Bool → Type 0
 EmitsIfFits most old new event fits = IsTrue fits → AppendsDraft most old new (emit (event_of event))
+
+-- the same of a failure with why the debuggee refused
+abbrev pub explanation_fits : ℕ → OutboxState → Request → Explanation → Bool
+explanation_fits most old request e = nat_le (length (canon (explained_response (old.numbers.used + 1) request.seq request.command e.show_user e.text))) most
+
+abbrev pub ExplainsIfFits : ℕ → OutboxState → OutboxState → Request → Explanation → Bool → Type 0
+ExplainsIfFits most old new request e fits = IsTrue fits → AppendsDraft most old new (reply request (explained e))

@@ -1,16 +1,17 @@
 //! A buffer that is lent, with messages of a step behind what it had before.
 ghost use Rattle.std.specs.Prelude.{◌≡◌, ◌+◌, ◌<◌, ◌≤◌, ◌++◌, length, IfOk, OnOk, OnErr, false};
 ghost use Rattle.dap_outbox.specs.Draft.{ask};
-ghost use Rattle.dap_outbox.specs.Outbox.{event_of, IsReady, AppendsDraft, HoldsNone, AppendsReply, AppendsEvent, EmitsIfFits, answer_fits, AnswersIfFits};
+ghost use Rattle.dap_outbox.specs.Outbox.{event_of, IsReady, AppendsDraft, HoldsNone, AppendsReply, AppendsEvent, EmitsIfFits, answer_fits, AnswersIfFits, explanation_fits, ExplainsIfFits};
 ghost use Rattle.dap_json.specs.Field.{max_seq};
 ghost use Rattle.dap_message.specs.Lengths.{max_fixed, IsWithin, event_fits};
 
 use crate::answer::{Answer, Event};
 use crate::texts::{append_reply, append_terminal, append_told};
 use dap_body::Body;
+use dap_debuggee::Explanation;
 use dap_frame::frame_from;
-use dap_message::append_answer;
 use dap_message::laws::fixed_messages_are_short;
+use dap_message::{append_answer, append_explained};
 use dap_tables::{Entry, Seq};
 use std::alloc::{AllocError, Global};
 use std::marker::Model;
@@ -129,6 +130,43 @@ impl Outbox {
         let end = self.buffer.len();
         let command = request.command.as_str();
         append_answer(alloc, &mut self.buffer, seq, request.seq, command, &body)?;
+        if self.buffer.len() - end > most {
+            self.buffer.truncate(end);
+            return Ok(false);
+        }
+        frame_from(&mut self.buffer, end)?;
+        self.numbers = numbers;
+        Ok(true)
+    }
+
+    /// Answers a request that the debuggee refused with the failure `debuggee` and why, unless its message is longer than so many
+    /// bytes: whether it was.
+    pub fn explain_within(
+        &mut self,
+        alloc: Global,
+        request: &Entry,
+        told: &Explanation,
+        most: usize,
+    ) -> Result<bool, AllocError>
+        requires { self.old.numbers.used < self.old.numbers.last }
+        ensures fits { IfOk result (λ ok. ok ≡ explanation_fits most self.old request.now told.now) }
+        ensures writes { IfOk result (ExplainsIfFits most self.old self.new request.now told.now) }
+        ensures before { self.new.before ≡ self.old.before }
+        ensures too_long { IfOk result (λ ok. ok ≡ false → self.new ≡ self.old) }
+        ensures err { OnErr result (self.new ≡ self.old) }
+    {
+        let (seq, numbers) = self.next();
+        let end = self.buffer.len();
+        let (command, why) = (request.command.as_str(), told.text.as_str());
+        append_explained(
+            alloc,
+            &mut self.buffer,
+            seq,
+            request.seq,
+            command,
+            why,
+            told.show_user,
+        )?;
         if self.buffer.len() - end > most {
             self.buffer.truncate(end);
             return Ok(false);

@@ -1,5 +1,5 @@
 -- Each success has the body that its command's row says: effect by effect, then by the table.
-use Rattle.std.proofs.Common.{◌≡◌, ℕ, List, [], ◌∷◌, ◌++◌, Bool, true, false, not, cond, Option, Some, None, Result, Ok, Err, refl, sym, ap, ◌∙◌, subst, true≢false}
+use Rattle.std.proofs.Common.{◌≡◌, ◌⊎◌, inl, inr, ℕ, List, [], ◌∷◌, ◌++◌, Bool, true, false, not, cond, Option, Some, None, Result, Ok, Err, refl, sym, ap, ◌∙◌, subst, true≢false}
 use Rattle.std.specs.Prelude.{◌||◌, ◌&&◌, is_some, option_map, if◌then◌else◌}
 use Rattle.std.specs.List.{list_any, find}
 use Rattle.serde_json.specs.Data.{Data}
@@ -12,7 +12,7 @@ use Rattle.dap_command.specs.declared.command.Command.{Command}
 use Rattle.dap_command.specs.declared.command.Command.TheVariants as command
 use Rattle.dap_command.specs.declared.source_key.SourceKey.{SourceKey}
 use Rattle.dap_body.specs.declared.failure.Failure.{Failure}
-use Rattle.dap_body.specs.declared.failure.Failure.TheVariants.{Cancelled, TooManyBreakpoints, TooLarge}
+use Rattle.dap_body.specs.declared.failure.Failure.TheVariants.{Cancelled, Debuggee, TooManyBreakpoints, TooLarge}
 use Rattle.dap_message.specs.MessageParts.{initialized, terminated}
 use Rattle.dap_tables.specs.Outstanding.{without, parked_ones}
 use Rattle.dap_tables.specs.declared.entry.Entry.{Entry}
@@ -20,20 +20,22 @@ use Rattle.dap_tables.specs.declared.target.Target.{Target}
 use Rattle.dap_tables.proofs.KeptLemmas.{contains_seq-without}
 use Rattle.dap_debuggee.specs.Shown.{Shown, Reply, done, refused, happened}
 use Rattle.dap_debuggee.specs.declared.answers.Assigned.{Assigned}
+use Rattle.dap_debuggee.specs.declared.explanation.Explanation.{Explanation}
 use Rattle.dap_decision.specs.Laws.{asks, QueriesHaveTheirBodies}
 use Rattle.dap_decision.specs.Table.{Row, rows_of, effect_in, is_among}
 use Rattle.dap_decision.specs.declared.effect.Effect.{Effect}
 use Rattle.dap_decision.specs.declared.effect.Effect.TheVariants as effect
 use Rattle.dap_query.specs.Bodies.{QueryAnswer, QueryResult, query_result}
 use Rattle.dap_query.specs.Queries.{object_of}
-use Rattle.dap_outbox.specs.Draft.{Answer, Draft, reply, emit, ask, success, failure, plain_success}
+use Rattle.dap_outbox.specs.Draft.{Answer, Draft, reply, emit, ask, success, failure, explained, plain_success}
 use Rattle.dap_plan.specs.BodyLaws.{SuccessesHaveTheirBodies}
 use Rattle.dap_plan.specs.Breakpoints.{are_too_many}
-use Rattle.dap_plan.specs.Handling.{Change, ChangeResult, answer_each, after_change, after_query, assigned_result, by_reply, change_result, effect_of, fits, lines_asked, lines_change, lines_result, plan_for, resume_body, start_unless_asked, start_parked_unless_asked, wants_terminal, parked_wants_terminal, value_change, value_result}
+use Rattle.dap_plan.specs.Handling.{Change, ChangeResult, answer_each, after_change, after_query, assigned_result, by_reply, change_result, effect_of, failing, fits, change_reason, query_reason, lines_asked, lines_change, lines_result, plan_for, resume_body, start_unless_asked, start_parked_unless_asked, wants_terminal, parked_wants_terminal, value_change, value_result}
 use Rattle.dap_plan.specs.OrderLaws.{answer_to, comes_to}
 use Rattle.dap_plan.specs.Plan.{Made, Plan}
 use Rattle.dap_plan.specs.Session.{Session, query_of}
 use Rattle.dap_plan.proofs.Kept.{eqb-self}
+use Rattle.dap_plan.proofs.Outcomes.{failing-is}
 use Rattle.dap_plan.proofs.ServedInOrder.{behind-others}
 
 -- ---- what the first answer says
@@ -41,10 +43,12 @@ use Rattle.dap_plan.proofs.ServedInOrder.{behind-others}
 abbrev body-said : Answer → Bool
 body-said (success body names) = is_some body
 body-said (failure f) = false
+body-said (explained told) = false
 
 abbrev is-failure : Answer → Bool
 is-failure (success body names) = false
 is-failure (failure f) = true
+is-failure (explained told) = true
 
 some-same : {A : Type 0} (a b : A) → Some a ≡ Some b → a ≡ b
 some-same a b e = cc
@@ -132,13 +136,24 @@ either-plan : (b : Bool) (made other : Plan) (last : Reply) (seq : ℕ) (body : 
 either-plan true made other last seq body names x y n h = y h
 either-plan false made other last seq body names x y n h = n h
 
-query-says : (s : Session) (r : Entry) (due : QueryResult) (x : Bool) (body : Option Data) (names : List Target) → ((t : QueryAnswer) → due ≡ Ok t → is_some t.body ≡ x) → answer_to r.seq (after_query s r due).drafts ≡ Some (success body names) → is_some body ≡ x
-query-says s r (Err f) x body names k h = fails r f [] body names h
-query-says s r (Ok t) x body names k h = either-made (fits s r t.body) _ _ r.seq body names x (λ y. said r _ [] body names y ∙ k t refl) (λ n. fails r TooLarge [] body names n) h
+failing-is-one : (s : Session) (r : Entry) (f : Failure) (why : Option Explanation) → is-failure (failing s r f why) ≡ true
+failing-is-one s r f why = by (failing-is s r f why)
+  where
+    by : (failing s r f why ≡ failure f) ⊎ ((told : Explanation) × (f ≡ Debuggee) × (failing s r f why ≡ explained told)) → is-failure (failing s r f why) ≡ true
+    by (inl e) = ap is-failure e
+    by (inr w) = ap is-failure w.2
 
-change-says : (s : Session) (r : Entry) (due : ChangeResult) (last : Reply) (x : Bool) (body : Option Data) (names : List Target) → ((c : Change) → due ≡ Ok c → is_some c.body ≡ x) → answer_to r.seq (comes_to (after_change s r due) last).drafts ≡ Some (success body names) → is_some body ≡ x
-change-says s r (Err f) last x body names k h = fails r f [] body names h
-change-says s r (Ok c) last x body names k h = either-plan (fits s r c.body) _ _ last r.seq body names x (λ y. said r _ [] body names y ∙ k c refl) (λ n. fails r TooLarge [] body names n) h
+-- nor is one with a reason
+fails-so : {A : Type 0} (s : Session) (r : Entry) (f : Failure) (why : Option Explanation) (body : Option Data) (names : List Target) → answer_to r.seq (reply r (failing s r f why) ∷ []) ≡ Some (success body names) → A
+fails-so s r f why body names h = absurd (true≢false (sym (failing-is-one s r f why) ∙ ap is-failure (answers r (failing s r f why) [] body names h)))
+
+query-says : (s : Session) (r : Entry) (why : Option Explanation) (due : QueryResult) (x : Bool) (body : Option Data) (names : List Target) → ((t : QueryAnswer) → due ≡ Ok t → is_some t.body ≡ x) → answer_to r.seq (after_query s r why due).drafts ≡ Some (success body names) → is_some body ≡ x
+query-says s r why (Err f) x body names k h = fails-so s r f why body names h
+query-says s r why (Ok t) x body names k h = either-made (fits s r t.body) _ _ r.seq body names x (λ y. said r _ [] body names y ∙ k t refl) (λ n. fails r TooLarge [] body names n) h
+
+change-says : (s : Session) (r : Entry) (why : Option Explanation) (due : ChangeResult) (last : Reply) (x : Bool) (body : Option Data) (names : List Target) → ((c : Change) → due ≡ Ok c → is_some c.body ≡ x) → answer_to r.seq (comes_to (after_change s r why due) last).drafts ≡ Some (success body names) → is_some body ≡ x
+change-says s r why (Err f) last x body names k h = fails-so s r f why body names h
+change-says s r why (Ok c) last x body names k h = either-plan (fits s r c.body) _ _ last r.seq body names x (λ y. said r _ [] body names y ∙ k c refl) (λ n. fails r TooLarge [] body names n) h
 
 lines-some : (b : Bool) (s : Session) (key : SourceKey) (lines : List ℕ) (verified : List Bool) (c : Change) → (let due : ChangeResult = (if b then Err TooManyBreakpoints else Ok (lines_change s key lines verified)) in due) ≡ Ok c → is_some c.body ≡ true
 lines-some true s key lines verified c e = absurd (cc e)
@@ -220,8 +235,8 @@ own-success view s r asked last e body names o h a =
 pub successes_have_their_bodies : QueriesHaveTheirBodies → SuccessesHaveTheirBodies
 unfolding plan_for
 successes_have_their_bodies queries view s r asked last effect.Query body names h a =
-    query-says s r (query_result view (query_of s) asked) (has_body (command_of asked)) body names
+    query-says s r (query_reason view s asked) (query_result view (query_of s) asked) (has_body (command_of asked)) body names
     (λ t e. queries view (query_of s) asked t (found-any asks (λ row. is_among s.phase row.phases) (rows_of (command_of asked)) effect.Query h refl) e) a
 successes_have_their_bodies queries view s r asked last effect.Change body names h a =
-    change-says s r (change_result view s asked) last (has_body (command_of asked)) body names (change-told view s asked) a
+    change-says s r (change_reason view s asked) (change_result view s asked) last (has_body (command_of asked)) body names (change-told view s asked) a
 successes_have_their_bodies queries view s r asked last e body names h a = own-success view s r asked last e body names refl h a

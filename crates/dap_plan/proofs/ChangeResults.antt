@@ -27,6 +27,7 @@ use Rattle.dap_tables.specs.Breakpoints.{breakpoints_with}
 use Rattle.dap_tables.specs.Outstanding.{without}
 use Rattle.dap_debuggee.specs.Shown.{Shown, to_set_breakpoints, to_assign, done}
 use Rattle.dap_debuggee.specs.declared.answers.Assigned.{Assigned}
+use Rattle.dap_debuggee.specs.declared.explanation.Explanation.{Explanation}
 use Rattle.std.specs.Option.{IsSome}
 use Rattle.dap_plan.specs.Breakpoints.{are_too_many}
 use Rattle.dap_plan.specs.Carried.{Goes}
@@ -218,9 +219,9 @@ value-told view s asked o holder name text a is n t told =
 
 -- ---- a change that is made
 
-pub change-carries : {D : Type 0} (follows : Goes D) (due : ChangeResult) (old mid new : SessionState D) (r : Entry) (outbox : OutboxState) (bytes : List ℕ) → (m : IsMeasured due old.session r outbox) → Changes follows due old mid
-    → new ≡ record mid { session = record mid.session { kept = without r.seq mid.session.kept; used = outbox.numbers.used } } → bytes ≡ outbox.bytes → Carries follows (after_change old.session r due) old new bytes
-change-carries follows due old mid new r outbox bytes m c n b =
+pub change-carries : {D : Type 0} (follows : Goes D) (why : Option Explanation) (due : ChangeResult) (old mid new : SessionState D) (r : Entry) (outbox : OutboxState) (bytes : List ℕ) → (m : IsMeasured due old.session r outbox) → Changes follows due old mid
+    → new ≡ record mid { session = record mid.session { kept = without r.seq mid.session.kept; used = outbox.numbers.used } } → bytes ≡ outbox.bytes → Carries follows (after_change old.session r why due) old new bytes
+change-carries follows why due old mid new r outbox bytes m c n b =
     let same : m.change ≡ c.change = (let e = sym m.is ∙ c.is in cc) in
     let debuggee : new.debuggee ≡ mid.debuggee = ap (λ (x : SessionState _). x.debuggee) n in
     let session : new.session ≡ record old.session { kept = without r.seq old.session.kept; breakpoints = m.change.breakpoints; used = old.session.used + 1 } =

@@ -14,8 +14,9 @@ use Rattle.dap_debuggee.specs.Shown.{Shown, to_start, to_resume, to_end, Reply, 
 use Rattle.dap_decision.specs.declared.effect.Effect.{Effect}
 use Rattle.dap_decision.specs.declared.effect.Effect.TheVariants as effect
 use Rattle.dap_query.specs.Bodies.{query_result}
-use Rattle.dap_plan.specs.Handling.{after_launch, after_parked_launch, after_disconnect, after_terminate, start_phase, after_resume, after_query, by_reply, change_result, plan_for}
+use Rattle.dap_plan.specs.Handling.{after_launch, after_parked_launch, after_disconnect, after_terminate, start_phase, after_resume, after_query, by_reply, change_result, change_reason, query_reason, plan_for}
 use Rattle.dap_decision.specs.Failures.{thread_of}
+use Rattle.dap_plan.specs.OrderLaws.{reason_in}
 use Rattle.dap_plan.specs.Plan.{at_once, after_answering}
 use Rattle.dap_outbox.specs.Draft.{emit}
 use Rattle.dap_plan.specs.Session.{Session, query_of}
@@ -42,11 +43,11 @@ pub record EffectRow (e : Effect) (view : Shown) (s : Session) (asked : Call) : 
   -- of a request that is kept: what is answered and kept, numbers and references, limits, and that what is refused changes nothing
   pub outcome : (k : Kept) → IsHandled s k → Answers e k.entry → IsRow s (plan_for e view s k.entry asked)
   -- it fails with the first failure whose test holds, or asks and answers what the effect says
-  pub order : (r : Entry) → IsWithin s → Fails (first_of view s r e asked) (plan_for e view s r asked) s r (DoesWell e s r asked (plan_for e view s r asked))
+  pub order : (r : Entry) → IsWithin s → Fails (first_of view s r e asked) (plan_for e view s r asked) s r (reason_in view s e asked) (DoesWell e s r asked (plan_for e view s r asked))
 
-query-order : (view : Shown) (s : Session) (r : Entry) (asked : Call) → IsWithin s → Fails (first_of view s r effect.Query asked) (at_once (after_query s r (query_result view (query_of s) asked))) s r (DoesWell effect.Query s r asked (at_once (after_query s r (query_result view (query_of s) asked))))
+query-order : (view : Shown) (s : Session) (r : Entry) (asked : Call) → IsWithin s → Fails (first_of view s r effect.Query asked) (at_once (after_query s r (query_reason view s asked) (query_result view (query_of s) asked))) s r (query_reason view s asked) (DoesWell effect.Query s r asked (at_once (after_query s r (query_reason view s asked) (query_result view (query_of s) asked))))
 query-order view s r asked w =
-    let q = query-fails s r (refuses_query view (query_of s) asked) (objects_named view (query_of s) asked) (query_result view (query_of s) asked) (each_query_is_answered_or_refused view (query_of s) asked) (record { references = w.references; numbers = w.numbers }) in
+    let q = query-fails s r (query_reason view s asked) (refuses_query view (query_of s) asked) (objects_named view (query_of s) asked) (query_result view (query_of s) asked) (each_query_is_answered_or_refused view (query_of s) asked) (record { references = w.references; numbers = w.numbers }) in
     record { some = q.some; none = λ e. record { asks = refl; answered = λ last. q.none e } }
 
 -- no own request waits in Configured
@@ -81,57 +82,57 @@ pub effect-row : (e : Effect) (view : Shown) (s : Session) (asked : Call) → Su
 unfolding plan_for
 effect-row effect.Initialize view s asked n p q = record {
   outcome = λ k i o. once-row s 2 _ (after_initialize-outcome s k asked p i) refl (λ first before h. unstarted first s.phase before q h);
-  order = λ r w. well-so effect.Initialize s r asked _ refl (λ last. succeeds-initialize s r asked);
+  order = λ r w. well-so effect.Initialize s r asked None _ refl (λ last. succeeds-initialize s r asked);
 }
 effect-row effect.Park view s asked n p q = record {
   outcome = λ k i o. once-row s 0 _ (after_park-outcome s k p i) refl (λ first before h. unstarted first s.phase before q h);
-  order = λ r w. well-so effect.Park s r asked _ refl (λ last. refl);
+  order = λ r w. well-so effect.Park s r asked None _ refl (λ last. refl);
 }
 effect-row effect.Start view s asked n p q = record {
   outcome = λ k i o. asking-row s 1 _ (after_launch s k.entry) (after_launch-outcome s k (asks_none-start s.phase p) i) (λ (last : Reply). one-clean k (by_reply None last) (reply-clean None last)) (λ first before last may h. starts-its-state first before last (unstarted first s.phase before q h));
-  order = λ r w. well-so effect.Start s r asked _ refl (λ last. starts-so s r last p);
+  order = λ r w. well-so effect.Start s r asked None _ refl (λ last. starts-so s r last p);
 }
 effect-row effect.Ask view s asked n p q = record {
   outcome = λ k i o. once-row s 1 _ (after_asking-outcome s k p i) refl (λ first before h. unstarted first s.phase before q h);
-  order = λ r w. well-so effect.Ask s r asked _ refl (λ last. asks-so s r);
+  order = λ r w. well-so effect.Ask s r asked None _ refl (λ last. asks-so s r);
 }
 effect-row effect.AskParked view s asked n p q = record {
   outcome = λ k i o. once-row s 2 _ (after_asking_parked-outcome s k p i) refl (λ first before h. unstarted first s.phase before q h);
-  order = λ r w. well-so effect.AskParked s r asked _ refl (λ last. asks-parked-so s r);
+  order = λ r w. well-so effect.AskParked s r asked None _ refl (λ last. asks-parked-so s r);
 }
 effect-row effect.ConfigurationDone view s asked n p q = record {
   outcome = λ k i o. once-row s 1 _ (after_configuration_done-outcome s k p i) refl (λ first before h. unstarted first s.phase before q h);
-  order = λ r w. well-so effect.ConfigurationDone s r asked _ refl (λ last. succeeds-first r []);
+  order = λ r w. well-so effect.ConfigurationDone s r asked None _ refl (λ last. succeeds-first r []);
 }
 effect-row effect.StartParked view s asked n p q = record {
   outcome = λ k i o. asking-row s (length (parked_ones (without k.entry.seq s.kept)) + 1) _ (after_parked_launch s k.entry) (after_parked_launch-outcome s k p i) (λ (last : Reply). each-clean (by_reply None last) (parked_ones (without k.entry.seq s.kept)) (reply-clean None last)) (λ first before last may h. starts-its-state first before last (unstarted first s.phase before q h));
-  order = λ r w. well-so effect.StartParked s r asked _ refl (λ last. starts-parked-so s r last);
+  order = λ r w. well-so effect.StartParked s r asked None _ refl (λ last. starts-parked-so s r last);
 }
 effect-row effect.Disconnect view s asked n p q = record {
   outcome = λ k i o. once-row s (length (without k.entry.seq s.kept) + 1) _ (after_disconnect-outcome s k i) (after_disconnect-clean s k) (λ first before h. at-rest first s.phase before q h);
-  order = λ r w. well-so effect.Disconnect s r asked _ refl (λ last. disconnects-so s r);
+  order = λ r w. well-so effect.Disconnect s r asked None _ refl (λ last. disconnects-so s r);
 }
 effect-row effect.EndAndDisconnect view s asked n p q = record {
   outcome = λ k i o. asking-row s (length (without k.entry.seq s.kept) + 1) _ (λ last. after_disconnect s k.entry) (λ (last : Reply). after_disconnect-outcome s k i) (λ (last : Reply). after_disconnect-clean s k) (λ first before last may h. inr (ends-its-state before last may));
-  order = λ r w. well-so effect.EndAndDisconnect s r asked _ refl (λ last. disconnects-so s r);
+  order = λ r w. well-so effect.EndAndDisconnect s r asked None _ refl (λ last. disconnects-so s r);
 }
 effect-row effect.Terminate view s asked n p q = record {
   outcome = λ k i o. asking-row s 2 _ (λ last. after_terminate s k.entry) (λ (last : Reply). after_terminate-outcome s k p i) (λ (last : Reply). refl) (λ first before last may h. ends-its-state before last may);
-  order = λ r w. well-so effect.Terminate s r asked _ refl (λ last. succeeds-first r (emit terminated ∷ []));
+  order = λ r w. well-so effect.Terminate s r asked None _ refl (λ last. succeeds-first r (emit terminated ∷ []));
 }
 effect-row effect.Change view s asked n p q = record {
-  outcome = λ k i o. change-row s k (change_result view s asked) (change-stands view s asked) (change-bare view s asked) (change-keeps view s asked) i;
+  outcome = λ k i o. change-row s k (change_reason view s asked) (change_result view s asked) (change-stands view s asked) (change-bare view s asked) (change-keeps view s asked) i;
   order = λ r w. change-fails view s r asked n;
 }
 effect-row (effect.Resume h) view s asked n p q = record {
   outcome = λ k i o. asking-row s 1 _ (after_resume h s k.entry) (after_resume-outcome h s k p i) (after_resume-clean h s k) (λ first. resumes-its-state first h s k (thread_of asked));
-  order = λ r w. well-so (effect.Resume h) s r asked _ refl (λ last. resumes-so h s r last);
+  order = λ r w. well-so (effect.Resume h) s r asked None _ refl (λ last. resumes-so h s r last);
 }
 effect-row effect.Pause view s asked n p q = record {
   outcome = λ k i o. asking-row s 1 _ (λ last. after_answering k.entry (by_reply None last) s) (λ (last : Reply). after_answering-outcome s k (by_reply None last) i (bare-by_reply last)) (λ (last : Reply). one-clean k (by_reply None last) (reply-clean None last)) (λ first before last may h. h);
-  order = λ r w. well-so effect.Pause s r asked _ refl (λ last. pauses-so s r last);
+  order = λ r w. well-so effect.Pause s r asked None _ refl (λ last. pauses-so s r last);
 }
 effect-row effect.Query view s asked n p q = record {
-  outcome = λ k i o. after_query-row s k (query_result view (query_of s) asked) (each_answer_is_sound view (query_of s) asked) o i;
+  outcome = λ k i o. after_query-row s k (query_reason view s asked) (query_result view (query_of s) asked) (each_answer_is_sound view (query_of s) asked) o i;
   order = λ r w. query-order view s r asked w;
 }

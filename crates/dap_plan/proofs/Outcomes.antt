@@ -1,23 +1,25 @@
 -- All that is proved of a step that was made, in one place: what answers it gives, what it keeps, what it does to the tables, how many messages it takes, how many requests are left to handle, and what failures it may write.
 -- A row of the table is shown to be one of these (Rows); the laws on steps are read off it.
-use Rattle.std.proofs.Common.{◌≡◌, ◌⊎◌, inl, inr, ℕ, ◌+◌, ◌<◌, List, [], ◌∷◌, ◌++◌, Bool, true, false, Option, None, length, refl, sym, ap, ◌∙◌, subst, arith}
+use Rattle.std.proofs.Common.{◌≡◌, ◌⊎◌, inl, inr, ℕ, ◌+◌, ◌<◌, List, [], ◌∷◌, ◌++◌, Bool, true, false, Option, None, Some, length, refl, sym, ap, ◌∙◌, subst, arith}
 use Rattle.std.specs.Prelude.{◌||◌, if◌then◌else◌}
 use Rattle.std.specs.List.{list_any}
 use Rattle.std.proofs.lemmas.List.{append-nil}
 use Rattle.dap_history.specs.History.{Asked, Answered, without_answered}
 use Rattle.dap_history.specs.Requests.{asks}
 use Rattle.dap_body.specs.declared.failure.Failure.{Failure}
+use Rattle.dap_body.specs.declared.failure.Failure.TheVariants.{Debuggee}
 use Rattle.dap_tables.specs.Outstanding.{Kept, without, HasDistinctSeqs}
 use Rattle.dap_tables.specs.References.{LiveReferences}
 use Rattle.dap_tables.specs.declared.entry.Entry.{Entry}
 use Rattle.dap_debuggee.specs.Shown.{Act, Reply, done}
+use Rattle.dap_debuggee.specs.declared.explanation.Explanation.{Explanation}
 use Rattle.dap_plan.specs.Answering.{GoesWell}
 use Rattle.dap_query.specs.References.{AreLive}
 use Rattle.dap_plan.specs.GivenLaws.{given_by, answers_set_variable, AllGiveLive}
-use Rattle.dap_plan.specs.Handling.{answer_each}
+use Rattle.dap_plan.specs.Handling.{answer_each, explained_if, failing, fits_explained}
 use Rattle.dap_plan.specs.Laws.{CanMake}
 use Rattle.dap_plan.specs.Plan.{Made, Plan, at_once, asking, after_answering, messages_due, entries_of, references_end_if}
-use Rattle.dap_outbox.specs.Draft.{Answer, success, failure, plain_success, Draft, reply, emit, ask, requests_in, names_in, names_of, outs}
+use Rattle.dap_outbox.specs.Draft.{Answer, success, failure, explained, plain_success, Draft, reply, emit, ask, requests_in, names_in, names_of, outs}
 use Rattle.dap_plan.specs.References.{references_after}
 use Rattle.dap_plan.specs.RefusalLaws.{is_for_room}
 use Rattle.dap_debuggee.specs.declared.answers.State.{State}
@@ -59,6 +61,9 @@ IsBare answer = (names_in answer ≡ []) × ((r : Entry) → given_by (reply r a
 
 pub bare-failure : (f : Failure) → IsBare (failure f)
 bare-failure f = (refl, λ r. refl)
+
+pub bare-explained : (told : Explanation) → IsBare (explained told)
+bare-explained told = (refl, λ r. refl)
 
 pub bare-success : IsBare plain_success
 bare-success = (refl, λ r. refl)
@@ -178,6 +183,7 @@ after_answering-outcome s k answer i e = plain-reply s k answer (after_answering
 abbrev pub is_refused : Answer → Bool
 is_refused (success body names) = false
 is_refused (failure f) = is_for_room f
+is_refused (explained told) = false
 
 abbrev pub refuses : Draft → Bool
 refuses (reply r answer) = is_refused answer
@@ -232,6 +238,27 @@ pub failed-row : (s : Session) (k : Kept) (f : Failure) → IsHandled s k → Is
 failed-row s k f i =
     let m : Made = after_answering k.entry (failure f) s in
     record { outcomes = at_once-outcomes s 1 m (after_answering-outcome s k (failure f) i (bare-failure f)); refused = inr (record { entry = k.entry; fault = f; is = refl }); keeps = λ first before h. h }
+
+-- the failure that the debuggee gave a reason for
+explained-row : (s : Session) (k : Kept) (told : Explanation) → IsHandled s k → IsRow s (at_once (after_answering k.entry (explained told) s))
+explained-row s k told i = once-row s 1 (after_answering k.entry (explained told) s) (after_answering-outcome s k (explained told) i (bare-explained told)) refl (λ first before h. h)
+
+-- a failure, with a reason or without
+pub failing-is : (s : Session) (r : Entry) (f : Failure) (why : Option Explanation) → (failing s r f why ≡ failure f) ⊎ ((told : Explanation) × (f ≡ Debuggee) × (failing s r f why ≡ explained told))
+failing-is s r Debuggee None = inl refl
+failing-is s r Debuggee (Some told) = by (fits_explained s r told)
+  where
+    by : (b : Bool) → (explained_if b told ≡ failure Debuggee) ⊎ ((x : Explanation) × (Debuggee ≡ Debuggee) × (explained_if b told ≡ explained x))
+    by true = inr (told, refl, refl)
+    by false = inl refl
+failing-is s r _ why = inl refl
+
+answered-row : (s : Session) (k : Kept) (a : Answer) (f : Failure) → IsHandled s k → (a ≡ failure f) ⊎ ((told : Explanation) × (f ≡ Debuggee) × (a ≡ explained told)) → IsRow s (at_once (after_answering k.entry a s))
+answered-row s k a f i (inl e) = subst (λ (x : Answer). IsRow s (at_once (after_answering k.entry x s))) (sym e) (failed-row s k f i)
+answered-row s k a f i (inr w) = subst (λ (x : Answer). IsRow s (at_once (after_answering k.entry x s))) (sym w.2) (explained-row s k w.0 i)
+
+pub failing-row : (s : Session) (k : Kept) (f : Failure) (why : Option Explanation) → IsHandled s k → IsRow s (at_once (after_answering k.entry (failing s k.entry f why) s))
+failing-row s k f why i = answered-row s k (failing s k.entry f why) f i (failing-is s k.entry f why)
 
 asking-outcomes : (s : Session) (n : ℕ) (makes : Reply → Made) → ((r : Reply) → IsOutcome s n (makes r)) → (made : Made) → (r : Reply) × (made ≡ makes r) → IsOutcome s (length (makes done).drafts) made
 asking-outcomes s n makes o made is = subst (λ (x : Made). IsOutcome s (length (makes done).drafts) x) (sym is.1) (recounted s n (length (makes done).drafts) (makes is.0) (sym (o done).count) (o is.0))

@@ -10,8 +10,9 @@ use Rattle.dap_decision.specs.declared.effect.Effect.{Effect}
 use Rattle.dap_decision.specs.declared.effect.Effect.TheVariants as effect
 use Rattle.dap_decision.specs.declared.phase.Phase.{Phase}
 use Rattle.dap_decision.specs.declared.phase.Phase.TheVariants.{Configured, Asked, Ended}
-use Rattle.dap_plan.specs.Handling.{effect_of, parked_wants_terminal, start_phase, wants_terminal}
+use Rattle.dap_plan.specs.Handling.{effect_of, parked_wants_terminal, start_parked_unless_asked, start_phase, start_unless_asked, wants_terminal}
 use Rattle.dap_plan.specs.Changing.{Suits}
+use Rattle.dap_plan.specs.OrderLaws.{reason_in}
 use Rattle.dap_plan.specs.Session.{Session, IsAskedIn}
 use Rattle.dap_decision.specs.Table.{effect_in}
 use Rattle.dap_plan.proofs.ServedInOrder.{first_of}
@@ -122,3 +123,13 @@ pub still-first : (view : Shown) (s : Session) (r : Entry) (e : Effect) (asked :
 still-first view s r effect.Start asked = same-first (wants_terminal s.options r) view s r effect.Ask effect.Start asked refl
 still-first view s r effect.StartParked asked = same-first (parked_wants_terminal s.options s.kept) view s r effect.AskParked effect.StartParked asked refl
 still-first view s r _ asked = refl
+
+still-none : (asked : Bool) (view : Shown) (s : Session) (c : Call) → (reason_in view s (start_unless_asked asked) c ≡ None) × (reason_in view s (start_parked_unless_asked asked) c ≡ None)
+still-none true view s c = (refl, refl)
+still-none false view s c = (refl, refl)
+
+-- nor is a reason given where a terminal is asked for
+pub still-reason : (view : Shown) (s : Session) (r : Entry) (e : Effect) (asked : Call) → reason_in view s (effect_of s r e) asked ≡ reason_in view s e asked
+still-reason view s r effect.Start asked = (still-none (wants_terminal s.options r) view s asked).0
+still-reason view s r effect.StartParked asked = (still-none (parked_wants_terminal s.options s.kept) view s asked).1
+still-reason view s r _ asked = refl

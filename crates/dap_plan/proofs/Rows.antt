@@ -19,6 +19,7 @@ use Rattle.dap_tables.proofs.SetLemmas.{count-breakpoints_with}
 use Rattle.dap_debuggee.specs.Laws.{state_after}
 use Rattle.dap_debuggee.specs.declared.answers.State.{State}
 use Rattle.dap_plan.specs.StateLaws.{IsStateOf}
+use Rattle.dap_debuggee.specs.declared.explanation.Explanation.{Explanation}
 use Rattle.dap_debuggee.specs.Shown.{Shown, Act, Reply, done, refused, happened}
 use Rattle.dap_debuggee.specs.declared.answers.How.{How}
 use Rattle.dap_query.specs.declared.options.Options.{Options}
@@ -41,7 +42,7 @@ use Rattle.dap_plan.proofs.Kept.{Walked, walked-none, walked-event, walked-ask, 
 use Rattle.dap_plan.proofs.Moves.{StandFew, moves-grown, moves-set, moves-plain, is-plain}
 use Rattle.dap_plan.proofs.OwnRequests.{asks_none, none-in, none-started}
 use Rattle.dap_plan.proofs.GivenBodies.{offers-none, bare-resume, lines-bare, value-bare}
-use Rattle.dap_plan.proofs.Outcomes.{IsBare, bare-failure, bare-success, IsOutcome, outcome, asks-nothing, AsksWell, each-asks-none, append-asks-none, references-plain, replied, plain-reply, plain-outcome, after_answering-outcome, each-bare, append-bare, is_refused, AreClean, each-clean, append-clean, IsRow, once-row, failed-row, asking-row, either-row}
+use Rattle.dap_plan.proofs.Outcomes.{IsBare, bare-failure, bare-success, IsOutcome, outcome, asks-nothing, AsksWell, each-asks-none, append-asks-none, references-plain, replied, plain-reply, plain-outcome, after_answering-outcome, each-bare, append-bare, is_refused, AreClean, each-clean, append-clean, IsRow, once-row, failed-row, failing-row, asking-row, either-row}
 
 -- ---- forms
 
@@ -220,9 +221,9 @@ change-outcome s k c i bare few = replied s k (success c.body []) _ i (moves-set
 abbrev pub LeavesState : Act → Type 0
 LeavesState act = (before : State) (last : Reply) → state_after before act last ≡ before
 
-pub change-row : (s : Session) (k : Kept) (due : ChangeResult) → ((c : Change) → due ≡ Ok c → StandFew s.limits s.breakpoints → StandFew s.limits c.breakpoints) → ((c : Change) → due ≡ Ok c → IsBare (success c.body [])) → ((c : Change) → due ≡ Ok c → LeavesState c.act) → IsHandled s k → IsRow s (after_change s k.entry due)
-change-row s k (Err f) few bare keeps i = failed-row s k f i
-change-row s k (Ok c) few bare keeps i =
+pub change-row : (s : Session) (k : Kept) (why : Option Explanation) (due : ChangeResult) → ((c : Change) → due ≡ Ok c → StandFew s.limits s.breakpoints → StandFew s.limits c.breakpoints) → ((c : Change) → due ≡ Ok c → IsBare (success c.body [])) → ((c : Change) → due ≡ Ok c → LeavesState c.act) → IsHandled s k → IsRow s (after_change s k.entry why due)
+change-row s k why (Err f) few bare keeps i = failing-row s k f why i
+change-row s k why (Ok c) few bare keeps i =
     either-row (fits s k.entry c.body) s (change_asked s k.entry c) _ (λ (f : fits s k.entry c.body ≡ true). asking-row s 1 _ _ (λ (last : Reply). change-outcome s k c i (bare c refl) (few c refl)) (λ (last : Reply). refl) (λ first before last may h. subst (λ (x : State). IsStateOf first s.phase x) (sym (keeps c refl before last)) h))
     (λ (f : fits s k.entry c.body ≡ false). failed-row s k TooLarge i)
 
@@ -273,6 +274,6 @@ after_query-if : (b : Bool) (s : Session) (k : Kept) (t : QueryAnswer) → IsSou
 after_query-if true s k t w o i = once-row s 1 _ (after_query-once s k t w o i) refl (λ first before h. h)
 after_query-if false s k t w o i = failed-row s k TooLarge i
 
-pub after_query-row : (s : Session) (k : Kept) (given : QueryResult) → ((t : QueryAnswer) → given ≡ Ok t → IsSoundAnswer (query_of s) t) → IsNoSetVariable k.entry → IsHandled s k → IsRow s (at_once (after_query s k.entry given))
-after_query-row s k (Err f) w o i = failed-row s k f i
-after_query-row s k (Ok t) w o i = after_query-if (fits s k.entry t.body) s k t (w t refl) o i
+pub after_query-row : (s : Session) (k : Kept) (why : Option Explanation) (given : QueryResult) → ((t : QueryAnswer) → given ≡ Ok t → IsSoundAnswer (query_of s) t) → IsNoSetVariable k.entry → IsHandled s k → IsRow s (at_once (after_query s k.entry why given))
+after_query-row s k why (Err f) w o i = failing-row s k f why i
+after_query-row s k why (Ok t) w o i = after_query-if (fits s k.entry t.body) s k t (w t refl) o i

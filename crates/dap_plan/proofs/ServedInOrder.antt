@@ -20,6 +20,7 @@ use Rattle.dap_tables.proofs.KeptLemmas.{contains_seq-without}
 use Rattle.dap_debuggee.specs.Shown.{Shown, to_assign, Reply, done, refused, happened}
 use Rattle.dap_debuggee.specs.declared.answers.Assigned.{Assigned}
 use Rattle.dap_debuggee.specs.declared.answers.How.{How}
+use Rattle.dap_debuggee.specs.declared.explanation.Explanation.{Explanation}
 use Rattle.dap_decision.specs.declared.effect.Effect.{Effect}
 use Rattle.dap_decision.specs.declared.effect.Effect.TheVariants as effect
 use Rattle.dap_decision.specs.declared.phase.Phase.{Phase}
@@ -28,7 +29,7 @@ use Rattle.dap_query.specs.Bodies.{QueryAnswer, QueryResult}
 use Rattle.dap_query.specs.Laws.{AreFew, IsAnsweredOrRefused, is_refused, is_answered}
 use Rattle.dap_query.specs.Queries.{object_of}
 use Rattle.dap_plan.specs.Breakpoints.{are_too_many}
-use Rattle.dap_plan.specs.Handling.{after_query, after_initialize, after_asking, after_asking_parked, after_launch, after_parked_launch, after_resume, after_disconnect, by_reply, answer_each, fits, lines_asked, Change, ChangeResult, change_asked, after_change, change_result, lines_change, lines_result, value_change, assigned_result, value_result}
+use Rattle.dap_plan.specs.Handling.{after_query, after_initialize, after_asking, after_asking_parked, after_launch, after_parked_launch, after_resume, after_disconnect, by_reply, answer_each, fits, lines_asked, Change, ChangeResult, change_asked, after_change, change_result, lines_change, lines_result, value_change, assigned_result, value_result, failing, change_reason}
 use Rattle.dap_plan.specs.OrderLaws.{refuses, sets_too_many, live_with, is_past_room, is_past_numbers, names_too_many, exhausts_numbers, is_too_large, is_long_answer, is_long_change, act_in, act_of, answer_to, comes_to, IsSuccess, IsByReply, IsDoneOrRefused, ParksAndAsks, AnswersAndAsks, IsAnswered}
 use Rattle.dap_plan.specs.Plan.{Made, Plan, at_once, after_answering}
 use Rattle.dap_outbox.specs.Draft.{Answer, Draft, reply, ask, failure, plain_success}
@@ -126,15 +127,15 @@ abbrev pub served_first : Bool → Bool → Bool → Bool → Bool → Option Fa
 served_first a b c d e = cond a (Some Debuggee) (cond b (Some TooManyBreakpoints) (cond c (Some TooManyReferences) (cond d (Some ReferencesExhausted) (cond e (Some TooLarge) None))))
 
 -- a plan that fails with the first of them, or does what is said here
-pub record Fails (first : Option Failure) (p : Plan) (s : Session) (r : Entry) (Does : Type 0) : Type 0 where
-  pub some : (f : Failure) → first ≡ Some f → p ≡ at_once (after_answering r (failure f) s)
+pub record Fails (first : Option Failure) (p : Plan) (s : Session) (r : Entry) (why : Option Explanation) (Does : Type 0) : Type 0 where
+  pub some : (f : Failure) → first ≡ Some f → p ≡ at_once (after_answering r (failing s r f why) s)
   pub none : first ≡ None → Does
 
-fails-so : (f : Failure) (s : Session) (r : Entry) (Does : Type 0) → Fails (Some f) (at_once (after_answering r (failure f) s)) s r Does
-fails-so f s r Does = record { some = λ g e. (let is : f ≡ g = cc in ap (λ (x : Failure). at_once (after_answering r (failure x) s)) is); none = λ e. absurd cc }
+fails-so : (f : Failure) (s : Session) (r : Entry) (why : Option Explanation) (Does : Type 0) → Fails (Some f) (at_once (after_answering r (failing s r f why) s)) s r why Does
+fails-so f s r why Does = record { some = λ g e. (let is : f ≡ g = cc in ap (λ (x : Failure). at_once (after_answering r (failing s r x why) s)) is); none = λ e. absurd cc }
 
-does-so : (p : Plan) (s : Session) (r : Entry) (Does : Type 0) → Does → Fails None p s r Does
-does-so p s r Does d = record { some = λ f e. absurd cc; none = λ e. d }
+does-so : (p : Plan) (s : Session) (r : Entry) (why : Option Explanation) (Does : Type 0) → Does → Fails None p s r why Does
+does-so p s r why Does d = record { some = λ f e. absurd cc; none = λ e. d }
 
 -- ---- what is answered
 
@@ -149,9 +150,9 @@ pub record DoesWell (e : Effect) (s : Session) (r : Entry) (asked : Call) (p : P
   pub asks : act_in p ≡ act_of e s asked
   pub answered : (last : Reply) → IsAnswered e s r last (comes_to p last)
 
-size-fails : (b : Bool) (m : Made) (s : Session) (r : Entry) (Does : Type 0) → (b ≡ true → Does) → Fails (served_first false false false false (not b)) (at_once (let out : Made = (if b then m else after_answering r (failure TooLarge) s) in out)) s r Does
-size-fails true m s r Does d = does-so (at_once m) s r Does (d refl)
-size-fails false m s r Does d = fails-so TooLarge s r Does
+size-fails : (b : Bool) (m : Made) (s : Session) (r : Entry) (why : Option Explanation) (Does : Type 0) → (b ≡ true → Does) → Fails (served_first false false false false (not b)) (at_once (let out : Made = (if b then m else after_answering r (failure TooLarge) s) in out)) s r why Does
+size-fails true m s r why Does d = does-so (at_once m) s r why Does (d refl)
+size-fails false m s r why Does d = fails-so TooLarge s r why Does
 
 -- numbers that can be given
 given-fails : (s : Session) (objects : List (Option Target)) (n : ℕ) → n ≡ live_with s objects → n ≤ s.limits.references → s.references.base + n ≤ s.limits.reference → (is_past_room s (live_with s objects) ≡ false) × (is_past_numbers s (live_with s objects) ≡ false)
@@ -174,17 +175,18 @@ past-numbers s n a b =
 
 -- a query
 
-size-succeeds : (s : Session) (r : Entry) (t : QueryAnswer) → fits s r t.body ≡ true → IsSuccess (answer_to r.seq (after_query s r (Ok t)).drafts)
-size-succeeds s r t h = rw h (rw (eqb-self r.seq) tt)
+size-succeeds : (s : Session) (r : Entry) (why : Option Explanation) (t : QueryAnswer) → fits s r t.body ≡ true → IsSuccess (answer_to r.seq (after_query s r why (Ok t)).drafts)
+size-succeeds s r why t h = rw h (rw (eqb-self r.seq) tt)
 
-failed-so : (s : Session) (r : Entry) (f : Failure) (n : ℕ) (Does : Type 0) → FailsWith f s.limits s.references.base n → Fails (served_first false false (is_past_room s n) (is_past_numbers s n) false) (at_once (after_answering r (failure f) s)) s r Does
-failed-so s r TooManyReferences n Does h = rw (past-room s n h.0 h.1) (fails-so TooManyReferences s r Does)
-failed-so s r ReferencesExhausted n Does h = let p = past-numbers s n h.0 h.1 in rw (p.0, p.1) (fails-so ReferencesExhausted s r Does)
-failed-so s r _ n Does h = absurd h
+failed-so : (s : Session) (r : Entry) (why : Option Explanation) (f : Failure) (n : ℕ) (Does : Type 0) → FailsWith f s.limits s.references.base n
+    → Fails (served_first false false (is_past_room s n) (is_past_numbers s n) false) (at_once (after_answering r (failing s r f why) s)) s r why Does
+failed-so s r why TooManyReferences n Does h = rw (past-room s n h.0 h.1) (fails-so TooManyReferences s r why Does)
+failed-so s r why ReferencesExhausted n Does h = let p = past-numbers s n h.0 h.1 in rw (p.0, p.1) (fails-so ReferencesExhausted s r why Does)
+failed-so s r why _ n Does h = absurd h
 
-told-fails : (s : Session) (r : Entry) (objects : List (Option Target)) (tell : List ℕ × LiveReferences → QueryAnswer) (given : Result (List ℕ × LiveReferences) Failure) → intern_each s.limits objects s.references ≡ given → AreFew s.limits s.references
-    → Fails (served_first false false (is_past_room s (live_with s objects)) (is_past_numbers s (live_with s objects)) (is_long_answer s r (and_then given (λ g. Ok (tell g))))) (at_once (after_query s r (and_then given (λ g. Ok (tell g))))) s r (IsSuccess (answer_to r.seq (after_query s r (and_then given (λ g. Ok (tell g)))).drafts))
-told-fails s r objects tell (Ok g) is few =
+told-fails : (s : Session) (r : Entry) (why : Option Explanation) (objects : List (Option Target)) (tell : List ℕ × LiveReferences → QueryAnswer) (given : Result (List ℕ × LiveReferences) Failure) → intern_each s.limits objects s.references ≡ given → AreFew s.limits s.references
+    → Fails (served_first false false (is_past_room s (live_with s objects)) (is_past_numbers s (live_with s objects)) (is_long_answer s r (and_then given (λ g. Ok (tell g))))) (at_once (after_query s r why (and_then given (λ g. Ok (tell g))))) s r why (IsSuccess (answer_to r.seq (after_query s r why (and_then given (λ g. Ok (tell g)))).drafts))
+told-fails s r why objects tell (Ok g) is few =
     let each = interned-each s.limits objects s.references g is in
     let then_few = each.few few in
     let live = ap (λ (x : LiveReferences). length x.live) each.live in
@@ -192,45 +194,45 @@ told-fails s r objects tell (Ok g) is few =
     let room = then_few.references in
     let numbers = then_few.numbers in
     let fit = given-fails s objects (length g.1.live) live room (omega arith) in
-    rw (fit.0, fit.1) (size-fails (fits s r (tell g).body) _ s r _ (size-succeeds s r (tell g)))
-told-fails s r objects tell (Err f) is few = failed-so s r f (live_with s objects) _ (each-fails s.limits objects f s.references is few)
+    rw (fit.0, fit.1) (size-fails (fits s r (tell g).body) _ s r why _ (size-succeeds s r why (tell g)))
+told-fails s r why objects tell (Err f) is few = failed-so s r why f (live_with s objects) _ (each-fails s.limits objects f s.references is few)
 
-pub query-fails : {c : Command} (s : Session) (r : Entry) (refused : Bool) (objects : List (Option Target)) (due : QueryResult) → IsAnsweredOrRefused (query_of s) c refused objects due → AreFew s.limits s.references
-    → Fails (served_first refused false (is_past_room s (live_with s objects)) (is_past_numbers s (live_with s objects)) (is_long_answer s r due)) (at_once (after_query s r due)) s r (IsSuccess (answer_to r.seq (after_query s r due).drafts))
-query-fails s r _ objects _ (is_refused _) few = fails-so Debuggee s r _
-query-fails s r _ objects _ (is_answered _ body gives) few =
-    told-fails s r objects (λ given. record { body = body given.0; names = targets_named objects; references = given.1 }) (intern_each s.limits objects s.references) refl few
+pub query-fails : {c : Command} (s : Session) (r : Entry) (why : Option Explanation) (refused : Bool) (objects : List (Option Target)) (due : QueryResult) → IsAnsweredOrRefused (query_of s) c refused objects due → AreFew s.limits s.references
+    → Fails (served_first refused false (is_past_room s (live_with s objects)) (is_past_numbers s (live_with s objects)) (is_long_answer s r due)) (at_once (after_query s r why due)) s r why (IsSuccess (answer_to r.seq (after_query s r why due).drafts))
+query-fails s r why _ objects _ (is_refused _) few = fails-so Debuggee s r why _
+query-fails s r why _ objects _ (is_answered _ body gives) few =
+    told-fails s r why objects (λ given. record { body = body given.0; names = targets_named objects; references = given.1 }) (intern_each s.limits objects s.references) refl few
 
 -- a change
 
-abbrev pub ChangesWell : Session → Entry → Call → ChangeResult → Type 0
-ChangesWell s r asked due = DoesWell effect.Change s r asked (after_change s r due)
+abbrev pub ChangesWell : Session → Entry → Option Explanation → Call → ChangeResult → Type 0
+ChangesWell s r why asked due = DoesWell effect.Change s r asked (after_change s r why due)
 
-fit-fails : (b : Bool) (s : Session) (r : Entry) (asked : Call) (c : Change) → Some c.act ≡ act_of effect.Change s asked
-    → (let p : Plan = (if b then change_asked s r c else at_once (after_answering r (failure TooLarge) s)) in Fails (served_first false false false false (not b)) p s r (DoesWell effect.Change s r asked p))
-fit-fails true s r asked c is = does-so (change_asked s r c) s r _ (record { asks = is; answered = λ last. rw (eqb-self r.seq) tt })
-fit-fails false s r asked c is = fails-so TooLarge s r _
+fit-fails : (b : Bool) (s : Session) (r : Entry) (why : Option Explanation) (asked : Call) (c : Change) → Some c.act ≡ act_of effect.Change s asked
+    → (let p : Plan = (if b then change_asked s r c else at_once (after_answering r (failure TooLarge) s)) in Fails (served_first false false false false (not b)) p s r why (DoesWell effect.Change s r asked p))
+fit-fails true s r why asked c is = does-so (change_asked s r c) s r why _ (record { asks = is; answered = λ last. rw (eqb-self r.seq) tt })
+fit-fails false s r why asked c is = fails-so TooLarge s r why _
 
-lines-by : (b : Bool) (s : Session) (r : Entry) (key : SourceKey) (lines : List ℕ) (verified : List Bool)
-    → (let due : ChangeResult = (if b then Err TooManyBreakpoints else Ok (lines_change s key lines verified)) in Fails (served_first false b false false (is_long_change s r due)) (after_change s r due) s r (ChangesWell s r (call.SetBreakpoints key lines) due))
-lines-by true s r key lines verified = fails-so TooManyBreakpoints s r _
-lines-by false s r key lines verified = fit-fails (fits s r (lines_change s key lines verified).body) s r (call.SetBreakpoints key lines) (lines_change s key lines verified) refl
+lines-by : (b : Bool) (s : Session) (r : Entry) (why : Option Explanation) (key : SourceKey) (lines : List ℕ) (verified : List Bool)
+    → (let due : ChangeResult = (if b then Err TooManyBreakpoints else Ok (lines_change s key lines verified)) in Fails (served_first false b false false (is_long_change s r due)) (after_change s r why due) s r why (ChangesWell s r why (call.SetBreakpoints key lines) due))
+lines-by true s r why key lines verified = fails-so TooManyBreakpoints s r why _
+lines-by false s r why key lines verified = fit-fails (fits s r (lines_change s key lines verified).body) s r why (call.SetBreakpoints key lines) (lines_change s key lines verified) refl
 
-lines-fail : (s : Session) (r : Entry) (key : SourceKey) (lines : List ℕ) (o : Option (List Bool))
-    → Fails (served_first (is_none o) (are_too_many s.limits key lines s.breakpoints) false false (is_long_change s r (lines_result s key lines o))) (after_change s r (lines_result s key lines o)) s r (ChangesWell s r (call.SetBreakpoints key lines) (lines_result s key lines o))
-lines-fail s r key lines None = fails-so Debuggee s r _
-lines-fail s r key lines (Some verified) = lines-by (are_too_many s.limits key lines s.breakpoints) s r key lines verified
+lines-fail : (s : Session) (r : Entry) (why : Option Explanation) (key : SourceKey) (lines : List ℕ) (o : Option (List Bool))
+    → Fails (served_first (is_none o) (are_too_many s.limits key lines s.breakpoints) false false (is_long_change s r (lines_result s key lines o))) (after_change s r why (lines_result s key lines o)) s r why (ChangesWell s r why (call.SetBreakpoints key lines) (lines_result s key lines o))
+lines-fail s r why key lines None = fails-so Debuggee s r why _
+lines-fail s r why key lines (Some verified) = lines-by (are_too_many s.limits key lines s.breakpoints) s r why key lines verified
 
-assigned-fails : (s : Session) (r : Entry) (asked : SetVariable) (holder : ℕ) (o : Option Assigned) → object_of s.references asked.variables_reference ≡ Some holder
-    → Fails (served_first (is_none o) false false false (is_long_change s r (assigned_result s asked holder o))) (after_change s r (assigned_result s asked holder o)) s r (ChangesWell s r (call.SetVariable asked) (assigned_result s asked holder o))
-assigned-fails s r asked holder None is = fails-so Debuggee s r _
-assigned-fails s r asked holder (Some a) is =
-    fit-fails (fits s r (value_change s asked holder a).body) s r (call.SetVariable asked) (value_change s asked holder a) (ap (option_map (λ h. to_assign h asked.name asked.value)) (sym is))
+assigned-fails : (s : Session) (r : Entry) (why : Option Explanation) (asked : SetVariable) (holder : ℕ) (o : Option Assigned) → object_of s.references asked.variables_reference ≡ Some holder
+    → Fails (served_first (is_none o) false false false (is_long_change s r (assigned_result s asked holder o))) (after_change s r why (assigned_result s asked holder o)) s r why (ChangesWell s r why (call.SetVariable asked) (assigned_result s asked holder o))
+assigned-fails s r why asked holder None is = fails-so Debuggee s r why _
+assigned-fails s r why asked holder (Some a) is =
+    fit-fails (fits s r (value_change s asked holder a).body) s r why (call.SetVariable asked) (value_change s asked holder a) (ap (option_map (λ h. to_assign h asked.name asked.value)) (sym is))
 
-value-fails : (view : Shown) (s : Session) (r : Entry) (asked : SetVariable) (o : Option ℕ) → object_of s.references asked.variables_reference ≡ o
-    → Fails (served_first (is_none (option_and_then (λ h. view.assigned h asked.name asked.value) o)) false false false (is_long_change s r (value_result view s asked o))) (after_change s r (value_result view s asked o)) s r (ChangesWell s r (call.SetVariable asked) (value_result view s asked o))
-value-fails view s r asked None is = fails-so Debuggee s r _
-value-fails view s r asked (Some holder) is = assigned-fails s r asked holder (view.assigned holder asked.name asked.value) is
+value-fails : (view : Shown) (s : Session) (r : Entry) (why : Option Explanation) (asked : SetVariable) (o : Option ℕ) → object_of s.references asked.variables_reference ≡ o
+    → Fails (served_first (is_none (option_and_then (λ h. view.assigned h asked.name asked.value) o)) false false false (is_long_change s r (value_result view s asked o))) (after_change s r why (value_result view s asked o)) s r why (ChangesWell s r why (call.SetVariable asked) (value_result view s asked o))
+value-fails view s r why asked None is = fails-so Debuggee s r why _
+value-fails view s r why asked (Some holder) is = assigned-fails s r why asked holder (view.assigned holder asked.name asked.value) is
 
 -- each effect
 
@@ -323,10 +325,10 @@ asks-parked-so s r =
 abbrev pub first_of : Shown → Session → Entry → Effect → Call → Option Failure
 first_of view s r e asked = served_first (refuses view s e asked) (sets_too_many s e asked) (names_too_many view s e asked) (exhausts_numbers view s e asked) (is_too_large view s r e asked)
 
-pub well-so : (e : Effect) (s : Session) (r : Entry) (asked : Call) (p : Plan) → act_in p ≡ act_of e s asked → ((last : Reply) → IsAnswered e s r last (comes_to p last)) → Fails None p s r (DoesWell e s r asked p)
-well-so e s r asked p a d = does-so p s r (DoesWell e s r asked p) (record { asks = a; answered = d })
+pub well-so : (e : Effect) (s : Session) (r : Entry) (asked : Call) (why : Option Explanation) (p : Plan) → act_in p ≡ act_of e s asked → ((last : Reply) → IsAnswered e s r last (comes_to p last)) → Fails None p s r why (DoesWell e s r asked p)
+well-so e s r asked why p a d = does-so p s r why (DoesWell e s r asked p) (record { asks = a; answered = d })
 
-pub change-fails : (view : Shown) (s : Session) (r : Entry) (asked : Call) → IsChange asked → Fails (first_of view s r effect.Change asked) (after_change s r (change_result view s asked)) s r (ChangesWell s r asked (change_result view s asked))
-change-fails view s r (call.SetBreakpoints key lines) n = lines-fail s r key lines (view.verify key (lines_asked s.options lines))
-change-fails view s r (call.SetVariable asked) n = value-fails view s r asked (object_of s.references asked.variables_reference) refl
+pub change-fails : (view : Shown) (s : Session) (r : Entry) (asked : Call) → IsChange asked → Fails (first_of view s r effect.Change asked) (after_change s r (change_reason view s asked) (change_result view s asked)) s r (change_reason view s asked) (ChangesWell s r (change_reason view s asked) asked (change_result view s asked))
+change-fails view s r (call.SetBreakpoints key lines) n = lines-fail s r (change_reason view s (call.SetBreakpoints key lines)) key lines (view.verify key (lines_asked s.options lines))
+change-fails view s r (call.SetVariable asked) n = value-fails view s r (change_reason view s (call.SetVariable asked)) asked (object_of s.references asked.variables_reference) refl
 change-fails view s r _ n = absurd n

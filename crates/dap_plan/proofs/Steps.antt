@@ -8,7 +8,7 @@ use Rattle.dap_history.specs.HistoryLaws.{HistoriesGrow}
 use Rattle.dap_envelope.specs.declared.message.Message.{Message}
 use Rattle.dap_plan.specs.Answering.{answered_by, AnswersEach, open_after, GoesWell}
 use Rattle.dap_plan.specs.Plan.{Made, entries_of, references_end_if}
-use Rattle.dap_outbox.specs.Draft.{success, failure, Draft, reply, emit, ask, request_of, requests_in, message_of, names_of, numbered_messages, outs}
+use Rattle.dap_outbox.specs.Draft.{success, failure, explained, Draft, reply, emit, ask, request_of, requests_in, message_of, names_of, numbered_messages, outs}
 use Rattle.dap_plan.specs.References.{references_then, references_after, references_of}
 use Rattle.dap_tables.specs.References.{LiveReferences, no_references}
 use Rattle.dap_plan.specs.Session.{Session, own_requests}
@@ -37,6 +37,7 @@ length-numbered_messages used (d ∷ ds) = let ih = length-numbered_messages (us
 seq-of-message : (n : ℕ) (d : Draft) → (message_of n d).seq ≡ n
 seq-of-message n (reply r (success body names)) = refl
 seq-of-message n (reply r (failure f)) = refl
+seq-of-message n (reply r (explained told)) = refl
 seq-of-message n (emit event) = refl
 seq-of-message n ask = refl
 
@@ -53,12 +54,14 @@ AreNumberedAfter-append n (x ∷ xs) ys p q =
 response-of-message : (n : ℕ) (d : Draft) → response_as (message_of n d).kind ≡ answered_by d
 response-of-message n (reply r (success body names)) = refl
 response-of-message n (reply r (failure f)) = refl
+response-of-message n (reply r (explained told)) = refl
 response-of-message n (emit event) = refl
 response-of-message n ask = refl
 
 request-of-message : (n : ℕ) (d : Draft) → option_to_list (request_as (message_of n d).seq (message_of n d).kind) ≡ request_of n d
 request-of-message n (reply r (success body names)) = refl
 request-of-message n (reply r (failure f)) = refl
+request-of-message n (reply r (explained told)) = refl
 request-of-message n (emit event) = refl
 request-of-message n ask = refl
 

@@ -1,11 +1,12 @@
 -- The code's words for what is changed: lines, or a value.
-use Rattle.std.specs.Prelude.{◌≡◌, ℕ, ◌<◌, ⊤, List, [], ◌∷◌, All, true, Some, Result, Ok, Err}
+use Rattle.std.specs.Prelude.{◌≡◌, ℕ, ◌<◌, ⊤, List, [], ◌∷◌, All, true, Option, Some, Result, Ok, Err}
 use Rattle.dap_body.specs.Body.{data_of}
 use Rattle.dap_body.specs.declared.body.Body.{Body}
 use Rattle.dap_call.specs.declared.call.Call.{Call}
 use Rattle.dap_call.specs.declared.call.Call.TheVariants as call
 use Rattle.dap_tables.specs.declared.entry.Entry.{Entry}
 use Rattle.dap_debuggee.specs.Shown.{done}
+use Rattle.dap_debuggee.specs.declared.explanation.Explanation.{Explanation}
 use Rattle.dap_plan.specs.Carried.{Goes}
 use Rattle.dap_plan.specs.SessionState.{SessionState}
 use Rattle.dap_decision.specs.declared.decision.Decision.{Decision}
@@ -14,9 +15,9 @@ use Rattle.dap_decision.specs.declared.effect.Effect.{Effect}
 use Rattle.dap_decision.specs.declared.effect.Effect.TheVariants as effect
 use Rattle.dap_query.specs.declared.no_answer.NoAnswer.{NoAnswer}
 use Rattle.dap_query.specs.declared.no_answer.NoAnswer.TheVariants.{Fails, OutOfMemory}
-use Rattle.dap_plan.specs.Handling.{Change, ChangeResult, fits}
+use Rattle.dap_plan.specs.Handling.{Change, ChangeResult, failing, fits}
 use Rattle.dap_plan.specs.Plan.{Plan, at_once, after_answering}
-use Rattle.dap_outbox.specs.Draft.{failure, success, reply}
+use Rattle.dap_outbox.specs.Draft.{success, reply}
 use Rattle.dap_query.specs.QueryResults.{Says}
 use Rattle.dap_plan.specs.Session.{Session}
 use Rattle.dap_outbox.specs.Outbox.{OutboxState, Holds}
@@ -65,10 +66,10 @@ pub record IsMeasured (due : ChangeResult) (s : Session) (r : Entry) (outbox : O
   pub last : outbox.numbers.last ≡ s.limits.seq
   pub holds : Holds outbox s.limits.body s.used (reply r (success change.body []) ∷ [])
 
--- the plan is to answer with this failure
-abbrev pub IsToFail : NoAnswer → Plan → Session → Entry → Type 0
-IsToFail (Fails f) plan s r = plan ≡ at_once (after_answering r (failure f) s)
-IsToFail OutOfMemory plan s r = ⊤
+-- the plan is to answer with this failure, with what the debuggee says of it
+abbrev pub IsToFail : NoAnswer → Plan → Session → Entry → Option Explanation → Type 0
+IsToFail (Fails f) plan s r why = plan ≡ at_once (after_answering r (failing s r f why) s)
+IsToFail OutOfMemory plan s r why = ⊤
 
 -- the debuggee was asked for it, and the breakpoints are those that it leaves
 pub record Changes {D : Type 0} (follows : Goes D) (due : ChangeResult) (old new : SessionState D) : Type 0 where

@@ -13,7 +13,7 @@ use Rattle.dap_decision.specs.Failures.{command_of}
 use Rattle.dap_plan.specs.Handling.{turns}
 use Rattle.dap_plan.specs.Laws.{CanMake}
 use Rattle.dap_plan.specs.Plan.{Made, Plan}
-use Rattle.dap_outbox.specs.Draft.{success, failure, Draft, reply, emit, ask}
+use Rattle.dap_outbox.specs.Draft.{success, failure, explained, Draft, reply, emit, ask}
 use Rattle.dap_plan.specs.Polling.{polls}
 use Rattle.dap_plan.specs.Session.{Session}
 use Rattle.dap_plan.specs.Taking.{takes}
@@ -22,6 +22,7 @@ use Rattle.dap_plan.specs.Taking.{takes}
 abbrev pub given_by : Draft → List (ReferenceKind × ℕ)
 given_by (reply r (success body names)) = references_given_in (command_of r) body
 given_by (reply r (failure f)) = []
+given_by (reply r (explained told)) = []
 given_by (emit event) = []
 given_by ask = []
 

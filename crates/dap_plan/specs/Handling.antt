@@ -1,13 +1,13 @@
 -- How a kept request is handled: what the debuggee is asked, what is written, what is left.
 -- Overview, "Initialization" to "Debug session end"; the responses of the Specification. What of this the protocol leaves open is this profile's choice.
-use Rattle.std.specs.Prelude.{ℕ, ◌+◌, List, [], ◌∷◌, ◌++◌, length, map, Bool, true, false, nat_le, Option, Some, None, option_map, option_and_then, unwrap_or, codes, bytes_eq, ◌&&◌, Result, Ok, Err, if◌then◌else◌}
+use Rattle.std.specs.Prelude.{ℕ, ◌+◌, ◌-◌, List, [], ◌∷◌, ◌++◌, length, map, Bool, true, false, nat_le, Option, Some, None, option_map, option_and_then, unwrap_or, codes, bytes_eq, ◌&&◌, Result, Ok, Err, if◌then◌else◌}
 use Rattle.std.specs.List.{zip, range_with_len, list_any}
 use Rattle.serde_json.specs.Data.{Data}
 use Rattle.dap_json.specs.Field.{text_at}
 use Rattle.dap_call.specs.Argument.{Read}
 use Rattle.dap_envelope.specs.Canon.{canon}
 use Rattle.dap_command.specs.Capabilities.{capabilities_data}
-use Rattle.dap_message.specs.MessageParts.{initialized, terminated, success_response}
+use Rattle.dap_message.specs.MessageParts.{initialized, terminated, success_response, explained_response}
 use Rattle.dap_body.specs.ResponseBody.{continue_body, set_breakpoints_body, set_variable_body}
 use Rattle.dap_body.specs.declared.response.Breakpoint.{Breakpoint as BreakpointBody}
 use Rattle.dap_call.specs.declared.call.Call.{Call}
@@ -21,9 +21,10 @@ use Rattle.dap_call.specs.declared.call.SetVariable.{SetVariable}
 use Rattle.dap_command.specs.declared.source_key.SourceKey.{SourceKey}
 use Rattle.dap_tables.specs.Outstanding.{Kept, without, with_mark}
 use Rattle.dap_tables.specs.declared.entry.Entry.{Entry}
-use Rattle.dap_debuggee.specs.Shown.{Shown, Act, to_start, to_resume, to_pause, to_set_breakpoints, to_assign, to_end, Reply, done}
+use Rattle.dap_debuggee.specs.Shown.{Shown, Act, to_start, to_resume, to_pause, to_set_breakpoints, to_assign, to_end, Reply, done, Query, for_frames, for_scopes, for_children, for_value, for_assigned, for_content, for_verified}
 use Rattle.dap_debuggee.specs.declared.answers.Assigned.{Assigned}
 use Rattle.dap_debuggee.specs.declared.answers.How.{How}
+use Rattle.dap_debuggee.specs.declared.explanation.Explanation.{Explanation}
 use Rattle.dap_debuggee.specs.declared.answers.How.TheVariants as how
 use Rattle.dap_decision.specs.declared.phase.Phase.{Phase}
 use Rattle.dap_decision.specs.declared.phase.Phase.TheVariants.{Ready, Configured, Parked, Asked, Running, Exited, Ended}
@@ -37,7 +38,7 @@ use Rattle.dap_plan.specs.Breakpoints.{are_too_many}
 use Rattle.dap_tables.specs.Breakpoints.{SetBreakpoints, breakpoints_with}
 use Rattle.dap_decision.specs.Failures.{command_of, call_in, thread_of, refusal_in}
 use Rattle.dap_plan.specs.Plan.{Made, Plan, at_once, asking, no_change, after_answering, plan_within_numbers}
-use Rattle.dap_outbox.specs.Draft.{Answer, success, failure, plain_success, Draft, reply, emit, ask}
+use Rattle.dap_outbox.specs.Draft.{Answer, success, failure, explained, plain_success, Draft, reply, emit, ask}
 use Rattle.dap_tables.specs.References.{without_references}
 use Rattle.dap_plan.specs.Session.{Session, oldest, query_of}
 use Rattle.dap_tables.specs.Outstanding.{parked_ones, unparked_ones}
@@ -190,10 +191,22 @@ after_resume h s r _ = after_answering r (failure Debuggee) s
 abbrev pub fits : Session → Entry → Option Data → Bool
 fits s r body = nat_le (length (canon (success_response (s.used + 1) r.seq r.command body))) s.limits.body
 
--- nothing is given where it would be too large
-abbrev pub after_query : Session → Entry → QueryResult → Made
-after_query s r (Err f) = after_answering r (failure f) s
-after_query s r (Ok t) =
+-- so has the failure with this reason
+abbrev pub fits_explained : Session → Entry → Explanation → Bool
+fits_explained s r told = nat_le (length (canon (explained_response (s.used + 1) r.seq r.command told.show_user told.text))) s.limits.body
+
+abbrev pub explained_if : Bool → Explanation → Answer
+explained_if fits told = if fits then explained told else failure Debuggee
+
+-- a failure: what the debuggee refused with the reason that it gives, where it gives one and that fits; any other without
+abbrev pub failing : Session → Entry → Failure → Option Explanation → Answer
+failing s r Debuggee (Some told) = explained_if (fits_explained s r told) told
+failing s r f _ = failure f
+
+-- nothing is given where it would be too large; where the debuggee refuses, this is why
+abbrev pub after_query : Session → Entry → Option Explanation → QueryResult → Made
+after_query s r why (Err f) = after_answering r (failing s r f why) s
+after_query s r why (Ok t) =
     if fits s r t.body
     then record { drafts = reply r (success t.body t.names) ∷ []; drops = false; after = record s { kept = without r.seq s.kept; references = t.references; used = s.used + 1 } }
     else after_answering r (failure TooLarge) s
@@ -218,9 +231,9 @@ change_asked s r c = asking c.act
     })
 
 -- the answer is measured before anything changes
-abbrev pub after_change : Session → Entry → ChangeResult → Plan
-after_change s r (Err f) = at_once (after_answering r (failure f) s)
-after_change s r (Ok c) = if fits s r c.body then change_asked s r c else at_once (after_answering r (failure TooLarge) s)
+abbrev pub after_change : Session → Entry → Option Explanation → ChangeResult → Plan
+after_change s r why (Err f) = at_once (after_answering r (failing s r f why) s)
+after_change s r why (Ok c) = if fits s r c.body then change_asked s r c else at_once (after_answering r (failure TooLarge) s)
 
 -- ---- lines that are set
 
@@ -269,6 +282,30 @@ change_result view s (call.SetBreakpoints key lines) = lines_result s key lines 
 change_result view s (call.SetVariable asked) = value_result view s asked (object_of s.references asked.variables_reference)
 change_result view s _ = Err Debuggee
 
+-- ---- why the debuggee refuses
+
+-- what a call queries, where the debuggee may refuse that, and what is named is there
+abbrev pub query_asked : Session → Call → Option Query
+query_asked s (call.StackTrace asked) = Some (for_frames asked.thread_id)
+query_asked s (call.Scopes number) = option_map for_scopes (object_of s.references number)
+query_asked s (call.Variables asked) = option_map for_children (object_of s.references asked.variables_reference)
+query_asked s (call.Evaluate asked) = Some (for_value (option_and_then (object_of s.references) asked.frame_id) asked.expression)
+query_asked s (call.Source number) = Some (for_content (number - 1))
+query_asked s _ = None
+
+-- the same of what is queried before a change
+abbrev pub query_before : Session → Call → Option Query
+query_before s (call.SetBreakpoints key lines) = Some (for_verified key (lines_asked s.options lines))
+query_before s (call.SetVariable asked) = option_map (λ holder. for_assigned holder asked.name asked.value) (object_of s.references asked.variables_reference)
+query_before s _ = None
+
+-- what the debuggee says of it
+abbrev pub query_reason : Shown → Session → Call → Option Explanation
+query_reason view s asked = option_and_then view.why (query_asked s asked)
+
+abbrev pub change_reason : Shown → Session → Call → Option Explanation
+change_reason view s asked = option_and_then view.why (query_before s asked)
+
 -- ---- the effects of the table
 
 unfoldable pub plan_for : Effect → Shown → Session → Entry → Call → Plan
@@ -282,10 +319,10 @@ plan_for effect.AskParked view s r asked = at_once (after_asking_parked s r)
 plan_for effect.Disconnect view s r asked = at_once (after_disconnect s r)
 plan_for effect.EndAndDisconnect view s r asked = asking to_end (λ last. after_disconnect s r)
 plan_for effect.Terminate view s r asked = asking to_end (λ last. after_terminate s r)
-plan_for effect.Change view s r asked = after_change s r (change_result view s asked)
+plan_for effect.Change view s r asked = after_change s r (change_reason view s asked) (change_result view s asked)
 plan_for (effect.Resume h) view s r asked = asking (to_resume h (thread_of asked)) (after_resume h s r)
 plan_for effect.Pause view s r asked = asking to_pause (λ last. after_answering r (by_reply None last) s)
-plan_for effect.Query view s r asked = at_once (after_query s r (query_result view (query_of s) asked))
+plan_for effect.Query view s r asked = at_once (after_query s r (query_reason view s asked) (query_result view (query_of s) asked))
 
 -- ---- a request, and a turn
 

@@ -13,6 +13,7 @@ use Rattle.dap_command.specs.declared.key.Key.{Key}
 use Rattle.dap_tables.specs.Outstanding.{parked_ones, with_mark, without}
 use Rattle.dap_tables.specs.declared.entry.Entry.{Entry}
 use Rattle.dap_tables.specs.declared.target.Target.{Target}
+use Rattle.dap_debuggee.specs.declared.explanation.Explanation.{Explanation}
 use Rattle.dap_debuggee.specs.Shown.{Shown, Act, to_start, to_resume, to_pause, to_set_breakpoints, to_assign, to_end, Reply, done}
 use Rattle.dap_decision.specs.declared.effect.Effect.{Effect}
 use Rattle.dap_decision.specs.declared.effect.Effect.TheVariants as effect
@@ -25,7 +26,7 @@ use Rattle.dap_query.specs.Refused.{refuses_query, objects_named}
 use Rattle.dap_plan.specs.Breakpoints.{are_too_many}
 use Rattle.dap_decision.specs.Failures.{command_of, call_in, of_known, is_early, is_initialize, waits_for_stop, lacks_thread, thread_named, lacks_reference, reference_named, lacks_source, source_named}
 use Rattle.dap_plan.specs.Handling.{refusal}
-use Rattle.dap_plan.specs.Handling.{ChangeResult, change_result, plan, fits, lines_asked, after_park, effect_of}
+use Rattle.dap_plan.specs.Handling.{ChangeResult, change_result, plan, fits, lines_asked, failing, query_reason, change_reason, after_park, effect_of}
 use Rattle.dap_decision.specs.Failures.{thread_of}
 use Rattle.dap_plan.specs.Plan.{Made, Plan, at_once, asking, after_answering}
 use Rattle.dap_outbox.specs.Draft.{Answer, success, failure, Draft, reply, emit, ask, requests_in}
@@ -133,6 +134,24 @@ holds view s r ReferencesExhausted = of_served (exhausts_numbers view s) s r (co
 holds view s r TooLarge = of_served (is_too_large view s r) s r (command_of r)
 holds view s r f = holds_before view s (command_of r) (call_in r) f
 
+-- what the debuggee says of why it refuses, by the effect and what is asked
+abbrev pub reason_in : Shown → Session → Effect → Call → Option Explanation
+reason_in view s effect.Query asked = query_reason view s asked
+reason_in view s effect.Change asked = change_reason view s asked
+reason_in view s _ asked = None
+
+abbrev pub reason_of_effect : Shown → Session → Option Effect → Read Call → Option Explanation
+reason_of_effect view s (Some e) (Ok asked) = reason_in view s e asked
+reason_of_effect view s _ _ = None
+
+abbrev pub reason_of_served : Shown → Session → Entry → Option Command → Option Explanation
+reason_of_served view s r None = None
+reason_of_served view s r (Some c) = reason_of_effect view s (effect_in c s.phase) (call_in r c)
+
+-- how a request that fails so is answered: where the debuggee refuses, with the reason that it gives, if that fits
+abbrev pub failure_answer : Shown → Session → Entry → Failure → Answer
+failure_answer view s r f = failing s r f (reason_of_served view s r (command_of r))
+
 -- ---- where no test holds
 
 abbrev pub act_in : Plan → Option Act
@@ -222,6 +241,6 @@ pub record IsServed (view : Shown) (s : Session) (r : Entry) (last : Reply) : Ty
 -- of a session within its limits
 pub record FailuresComeInOrder : Type 0 where
   -- a request that is handled is answered with the first failure of that order whose test holds, and nothing else is done
-  pub fails : (view : Shown) (s : Session) (r : Entry) (key : Key) → IsBadKey r key → IsWithin s → (f : Failure) → find (holds view s r) (failures_in_order key) ≡ Some f → plan view s r ≡ at_once (after_answering r (failure f) s)
+  pub fails : (view : Shown) (s : Session) (r : Entry) (key : Key) → IsBadKey r key → IsWithin s → (f : Failure) → find (holds view s r) (failures_in_order key) ≡ Some f → plan view s r ≡ at_once (after_answering r (failure_answer view s r f) s)
   -- where none holds it is served
   pub serves : (view : Shown) (s : Session) (r : Entry) (key : Key) → IsBadKey r key → IsWithin s → find (holds view s r) (failures_in_order key) ≡ None → (last : Reply) → IsServed view s r last

@@ -244,6 +244,7 @@ shown_of v = record {
   sources = map source_shown v.recording.sources;
   content = text_at v.recording.sources;
   verify = λ source lines. Some (lines_verified v.recording.sources source lines);
+  why = λ query. None;
 }
 
 -- ---- the views that an act may leave

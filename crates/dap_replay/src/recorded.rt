@@ -10,8 +10,8 @@ use crate::moves::{Move, Plan, Reason};
 use crate::set_lines::SetLines;
 use dap_command::SourceKey;
 use dap_debuggee::{
-    Asked, Assigned, Debuggee, DebuggeeFault, Evaluation, Frame, Happening, How, Scope, Source,
-    State, Thread, Variable,
+    Asked, Assigned, Debuggee, DebuggeeFault, Evaluation, Explanation, Frame, Happening, How,
+    RefusedQuery, Scope, Source, State, Thread, Variable,
 };
 use dap_json::Text;
 use dap_recording::Recording;
@@ -395,6 +395,15 @@ impl Debuggee for Recorded {
         lines: &[u32],
     ) -> Result<Vec<bool>, DebuggeeFault> {
         Ok(self.recording.sources.verify(alloc, source, lines)?)
+    }
+
+    /// A recording does not say why.
+    fn why(
+        &self,
+        _alloc: Global,
+        _query: RefusedQuery<'_>,
+    ) -> Result<Option<Explanation>, AllocError> {
+        Ok(None)
     }
 
     ghost counts = { counts-played };

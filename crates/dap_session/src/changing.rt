@@ -10,7 +10,7 @@ ghost use Rattle.dap_tables.specs.Breakpoints.{max_id, breakpoints_with};
 ghost use Rattle.dap_debuggee.specs.Shown.{to_set_breakpoints, to_assign, done};
 ghost use Rattle.dap_query.specs.Queries.{object_of};
 ghost use Rattle.dap_plan.specs.Breakpoints.{are_too_many};
-ghost use Rattle.dap_plan.specs.Handling.{after_change, answers_to, change_result, lines_asked, lines_result, value_result};
+ghost use Rattle.dap_plan.specs.Handling.{after_change, answers_to, change_reason, change_result, lines_asked, lines_result, value_result};
 ghost use Rattle.dap_plan.specs.Plan.{messages_due};
 ghost use Rattle.dap_plan.specs.SessionState.{Carries, IsRefusedFor, IsUnasked};
 ghost use Rattle.dap_plan.specs.Changing.{AreLines, CanChange, IsChange, IsChangeBody, IsMeasured, IsToFail, Changes, lines_given};
@@ -20,7 +20,7 @@ use dap_body::{Body, Breakpoint, Failure};
 use dap_call::{Call, SetVariable};
 use dap_command::SourceKey;
 use dap_debuggee::{Assigned, Debuggee};
-use dap_outbox::{Answer, Outbox};
+use dap_outbox::Outbox;
 use dap_plan::AdapterFault;
 use dap_query::NoAnswer;
 use dap_tables::{BpFault, Entry};
@@ -129,7 +129,7 @@ impl<D: Debuggee + Drop> Session<D> {
         requires room { self.now.session.used + 1 ≤ self.now.session.limits.seq }
         requires asked { asked.now ≡ lines_asked self.now.session.options (lines_given call.now) }
         ensures measured { OnOk result (IsMeasured (change_result (D.shown self.now.debuggee) self.now.session call.now) self.now.session request.now out.new) }
-        ensures fails { IfErr result (λ untold. IsToFail untold (after_change self.now.session request.now (change_result (D.shown self.now.debuggee) self.now.session call.now)) self.now.session request.now) }
+        ensures fails { IfErr result (λ untold. IsToFail untold (after_change self.now.session request.now (change_reason (D.shown self.now.debuggee) self.now.session call.now) (change_result (D.shown self.now.debuggee) self.now.session call.now)) self.now.session request.now (change_reason (D.shown self.now.debuggee) self.now.session call.now)) }
         ensures before { out.new.before ≡ out.old.before }
         ensures unwritten { IfErr result (λ untold. untold ≢ NoAnswer.OutOfMemory → out.new ≡ out.old) }
     {
@@ -229,8 +229,8 @@ impl<D: Debuggee + Drop> Session<D> {
         requires ready { IsReady out.old (numbers_of self.old.session) }
         requires room { self.old.session.used + 1 ≤ self.old.session.limits.seq }
         requires asked { asked.now ≡ lines_asked self.old.session.options (lines_given call.now) }
-        ensures carries { OnOk result (Carries D.follows (after_change self.old.session request.now (change_result (D.shown self.old.debuggee) self.old.session call.now)) self.old self.new out.new.bytes) }
-        ensures unasked { OnErr result (IsUnasked (Ok (Some (after_change self.old.session request.now (change_result (D.shown self.old.debuggee) self.old.session call.now)))) self.old.debuggee self.new.debuggee) }
+        ensures carries { OnOk result (Carries D.follows (after_change self.old.session request.now (change_reason (D.shown self.old.debuggee) self.old.session call.now) (change_result (D.shown self.old.debuggee) self.old.session call.now)) self.old self.new out.new.bytes) }
+        ensures unasked { OnErr result (IsUnasked (Ok (Some (after_change self.old.session request.now (change_reason (D.shown self.old.debuggee) self.old.session call.now) (change_result (D.shown self.old.debuggee) self.old.session call.now)))) self.old.debuggee self.new.debuggee) }
         ensures err { OnErr result (self.new.session ≡ self.old.session) }
         ensures before { out.new.before ≡ out.old.before }
     {
@@ -241,7 +241,8 @@ impl<D: Debuggee + Drop> Session<D> {
                 Ok(())
             }
             Err(NoAnswer::Fails(failure)) => {
-                self.answer(alloc, out, request, Answer::Failure(failure))
+                let query = self.query_before(call, asked);
+                self.fail(alloc, out, request, failure, query)
             }
             Err(NoAnswer::OutOfMemory) => Err(AllocError),
         }
@@ -257,8 +258,8 @@ impl<D: Debuggee + Drop> Session<D> {
         requires ready { IsReady out.old (numbers_of self.old.session) }
         requires room { self.old.session.used + 1 ≤ self.old.session.limits.seq }
         requires change { IsChange call.now }
-        ensures carries { OnOk result (Carries D.follows (after_change self.old.session request.now (change_result (D.shown self.old.debuggee) self.old.session call.now)) self.old self.new out.new.bytes) }
-        ensures unasked { OnErr result (IsUnasked (Ok (Some (after_change self.old.session request.now (change_result (D.shown self.old.debuggee) self.old.session call.now)))) self.old.debuggee self.new.debuggee) }
+        ensures carries { OnOk result (Carries D.follows (after_change self.old.session request.now (change_reason (D.shown self.old.debuggee) self.old.session call.now) (change_result (D.shown self.old.debuggee) self.old.session call.now)) self.old self.new out.new.bytes) }
+        ensures unasked { OnErr result (IsUnasked (Ok (Some (after_change self.old.session request.now (change_reason (D.shown self.old.debuggee) self.old.session call.now) (change_result (D.shown self.old.debuggee) self.old.session call.now)))) self.old.debuggee self.new.debuggee) }
         ensures err { OnErr result (self.new.session ≡ self.old.session) }
         ensures before { out.new.before ≡ out.old.before }
     {
@@ -280,9 +281,9 @@ impl<D: Debuggee + Drop> Session<D> {
     ) -> Result<(), AdapterFault>
         requires ready { IsReady out.old (numbers_of self.old.session) }
         requires change { IsChange call.now }
-        ensures carries { OnOk result (Carries D.follows (after_change self.old.session request.now (change_result (D.shown self.old.debuggee) self.old.session call.now)) self.old self.new out.new.bytes) }
-        ensures within { OnOk result (self.old.session.used + messages_due (after_change self.old.session request.now (change_result (D.shown self.old.debuggee) self.old.session call.now)) ≤ self.old.session.limits.seq) }
-        ensures refused { IfErr result (λ fault. IsRefusedFor fault (after_change self.old.session request.now (change_result (D.shown self.old.debuggee) self.old.session call.now)) self.old self.new) }
+        ensures carries { OnOk result (Carries D.follows (after_change self.old.session request.now (change_reason (D.shown self.old.debuggee) self.old.session call.now) (change_result (D.shown self.old.debuggee) self.old.session call.now)) self.old self.new out.new.bytes) }
+        ensures within { OnOk result (self.old.session.used + messages_due (after_change self.old.session request.now (change_reason (D.shown self.old.debuggee) self.old.session call.now) (change_result (D.shown self.old.debuggee) self.old.session call.now)) ≤ self.old.session.limits.seq) }
+        ensures refused { IfErr result (λ fault. IsRefusedFor fault (after_change self.old.session request.now (change_reason (D.shown self.old.debuggee) self.old.session call.now) (change_result (D.shown self.old.debuggee) self.old.session call.now)) self.old self.new) }
         ensures err { OnErr result (self.new.session ≡ self.old.session) }
         ensures before { out.new.before ≡ out.old.before }
     {

@@ -9,6 +9,7 @@ mod asking;
 mod changing;
 mod disconnecting;
 mod effects;
+mod explaining;
 mod handling;
 mod polling;
 mod querying;

@@ -8,7 +8,7 @@ ghost use Rattle.dap_query.specs.Bodies.{query_result};
 ghost use Rattle.dap_query.specs.QueryResults.{IsQueryResult};
 ghost use Rattle.dap_tables.specs.References.{back_to};
 ghost use Rattle.dap_plan.specs.SessionState.{MadeBy};
-ghost use Rattle.dap_plan.specs.Handling.{after_query, fits};
+ghost use Rattle.dap_plan.specs.Handling.{after_query, fits, query_reason};
 ghost use Rattle.dap_plan.specs.Session.{query_of, numbers_of};
 ghost use Rattle.dap_outbox.specs.Draft.{reply, success};
 ghost use Rattle.dap_outbox.specs.Outbox.{Holds, IsReady};
@@ -18,7 +18,7 @@ use crate::session::Session;
 use dap_body::{Body, Failure};
 use dap_call::Call;
 use dap_debuggee::Debuggee;
-use dap_outbox::{Answer, Outbox};
+use dap_outbox::Outbox;
 use dap_query::NoAnswer;
 use dap_tables::{Entry, Mark};
 use std::alloc::{AllocError, Global};
@@ -70,8 +70,8 @@ impl<D: Debuggee + Drop> Session<D> {
     ) -> Result<(), NoAnswer>
         requires ready { IsReady out.old (numbers_of self.old.session) }
         requires room { self.old.session.used + 1 ≤ self.old.session.limits.seq }
-        ensures made { OnOk result (IsOutboxOf out.new self.old.session request.now self.new.session.references (after_query self.old.session request.now (query_result (D.shown self.old.debuggee) (query_of self.old.session) call.now))) }
-        ensures fails { IfErr result (λ untold. MakesFailure untold request.now self.old.session (after_query self.old.session request.now (query_result (D.shown self.old.debuggee) (query_of self.old.session) call.now))) }
+        ensures made { OnOk result (IsOutboxOf out.new self.old.session request.now self.new.session.references (after_query self.old.session request.now (query_reason (D.shown self.old.debuggee) self.old.session call.now) (query_result (D.shown self.old.debuggee) (query_of self.old.session) call.now))) }
+        ensures fails { IfErr result (λ untold. MakesFailure untold request.now self.old.session (query_reason (D.shown self.old.debuggee) self.old.session call.now) (after_query self.old.session request.now (query_reason (D.shown self.old.debuggee) self.old.session call.now) (query_result (D.shown self.old.debuggee) (query_of self.old.session) call.now))) }
         ensures only { OnlyGives self.old self.new }
         ensures before { out.new.before ≡ out.old.before }
         ensures unwritten { IfErr result (λ untold. untold ≢ NoAnswer.OutOfMemory → out.new ≡ out.old) }
@@ -93,7 +93,7 @@ impl<D: Debuggee + Drop> Session<D> {
     ) -> Result<(), AllocError>
         requires ready { IsReady out.old (numbers_of self.old.session) }
         requires room { self.old.session.used + 1 ≤ self.old.session.limits.seq }
-        ensures made { OnOk result (MadeBy (after_query self.old.session request.now (query_result (D.shown self.old.debuggee) (query_of self.old.session) call.now)) self.old.session self.new.session out.new.bytes) }
+        ensures made { OnOk result (MadeBy (after_query self.old.session request.now (query_reason (D.shown self.old.debuggee) self.old.session call.now) (query_result (D.shown self.old.debuggee) (query_of self.old.session) call.now)) self.old.session self.new.session out.new.bytes) }
         ensures debuggee { self.new.debuggee ≡ self.old.debuggee }
         ensures err { OnErr result (self.new.session ≡ self.old.session) }
         ensures before { out.new.before ≡ out.old.before }
@@ -108,7 +108,8 @@ impl<D: Debuggee + Drop> Session<D> {
                 self.back_to(mark);
                 match untold {
                     NoAnswer::Fails(failure) => {
-                        self.answer(alloc, out, request, Answer::Failure(failure))
+                        let query = self.query_asked(call);
+                        self.fail(alloc, out, request, failure, query)
                     }
                     NoAnswer::OutOfMemory => Err(AllocError),
                 }

@@ -50,6 +50,7 @@ restless_shown v = record {
   sources = record { name = codes "a.c"; path = Some (codes "/a.c"); on_disk = false; more = [] } ∷ [];
   content = λ index. None;
   verify = λ source lines. None;
+  why = λ query. None;
 }
 
 -- it has no variable that could be set, and tells short texts

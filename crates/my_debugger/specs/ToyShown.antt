@@ -8,7 +8,7 @@ use Rattle.dap_command.specs.declared.source_key.SourceKey.{SourceKey}
 use Rattle.dap_command.specs.declared.source_key.SourceKey.TheVariants.{Path}
 use Rattle.serde_json.specs.Data.{string}
 use Rattle.dap_json.specs.declared.more.Member.{Member}
-use Rattle.dap_debuggee.specs.Shown.{Shown, Last}
+use Rattle.dap_debuggee.specs.Shown.{Shown, Last, Query, for_value}
 use Rattle.dap_debuggee.specs.declared.answers.State.{State}
 use Rattle.dap_debuggee.specs.declared.answers.State.TheVariants.{NotStarted, Running, Stopped, Gone}
 use Rattle.dap_debuggee.specs.declared.answers.Thread.{Thread}
@@ -17,10 +17,11 @@ use Rattle.dap_debuggee.specs.declared.answers.Scope.{Scope}
 use Rattle.dap_debuggee.specs.declared.answers.Variable.{Variable}
 use Rattle.dap_debuggee.specs.declared.answers.Evaluation.{Evaluation}
 use Rattle.dap_debuggee.specs.declared.answers.Source.{Source}
+use Rattle.dap_debuggee.specs.declared.explanation.Explanation.{Explanation}
 use Rattle.dap_tables.specs.SourceMap.{OfSource, set_of}
 use Rattle.my_debugger.specs.declared.call.Call.{Call}
 use Rattle.my_debugger.specs.declared.call.Local.{Local}
-use Rattle.my_debugger.specs.declared.program.TheConstants.{NAME, PATH, TEXT}
+use Rattle.my_debugger.specs.declared.program.TheConstants.{NAME, NO_VARIABLE, PATH, TEXT}
 
 -- ---- the view
 
@@ -107,6 +108,11 @@ abbrev pub evaluation_in : Option (List Call) → Option ℕ → List ℕ → Op
 evaluation_in calls None text = None
 evaluation_in calls (Some frame) text = option_map (λ local. record { value = decimal local.value; holder = None; more = of_its_type }) (option_and_then (λ locals. local_named text locals) (locals_in calls frame))
 
+-- why a text has no value
+abbrev pub why_refused : Query → Option Explanation
+why_refused (for_value frame text) = Some (record { text = NO_VARIABLE.now; show_user = false })
+why_refused _ = None
+
 abbrev pub the_source : Source
 the_source = record { name = NAME.now; path = Some PATH.now; on_disk = false; more = [] }
 
@@ -129,4 +135,5 @@ shown_toy v = record {
   sources = the_source ∷ [];
   content = λ index. if nat_eq index 0 then Some TEXT.now else None;
   verify = λ source lines. Some (map (has_line source) lines);
+  why = why_refused;
 }

@@ -2,12 +2,12 @@
 
 use crate::call::{Call, Local};
 use crate::news::{LastAct, News, Reason};
-use crate::program::{PATH, TEXT};
+use crate::program::{NO_VARIABLE, PATH, TEXT};
 use crate::{call, queries};
 use dap_command::SourceKey;
 use dap_debuggee::{
-    Asked, Assigned, Debuggee, DebuggeeFault, Evaluation, Frame, Happening, How, Scope, Source,
-    State, Thread, Variable,
+    Asked, Assigned, Debuggee, DebuggeeFault, Evaluation, Explanation, Frame, Happening, How,
+    RefusedQuery, Scope, Source, State, Thread, Variable,
 };
 use dap_json::Text;
 use dap_tables::SourceMap;
@@ -402,6 +402,21 @@ impl Debuggee for Toy {
         lines: &[u32],
     ) -> Result<Vec<bool>, DebuggeeFault> {
         Ok(queries::verified(alloc, source, lines)?)
+    }
+
+    /// Of a text that has no value, that it is no variable; of the others it says nothing.
+    fn why(
+        &self,
+        alloc: Global,
+        query: RefusedQuery<'_>,
+    ) -> Result<Option<Explanation>, AllocError> {
+        match query {
+            RefusedQuery::Evaluate { .. } => Ok(Some(Explanation {
+                text: Text::copied(alloc, NO_VARIABLE)?,
+                show_user: false,
+            })),
+            _ => Ok(None),
+        }
     }
 
     ghost counts = { counts-toy };

@@ -1,12 +1,12 @@
-//! Rows over a debuggee that may refuse its first start, and whose variables take one long value. What the lines of a row say
-//! stands in `playing.rt`.
+//! Rows over a debuggee that may refuse its first start, whose variables take one long value, and that says why a text has no
+//! value. What the lines of a row say stands in `playing.rt`.
 
 use crate::playing::Playing;
 use std::test::Fail;
 use test_kit::rows::play_rows;
 use test_kit::stubborn::Stubborn;
 
-pub(crate) static STUBBORN: [&str; 8] = [
+pub(crate) static STUBBORN: [&str; 10] = [
     r#"
 # Where a debuggee refuses to start, `launch` fails, and the next one succeeds.
 row a refused start
@@ -146,6 +146,49 @@ turn
 > {"seq":11,"type":"request","command":"evaluate","arguments":{"expression":"x","frameId":4}}
 turn
 < {"body":{"result":"1","variablesReference":0},"command":"evaluate","request_seq":11,"seq":15,"success":true,"type":"response"}
+"#,
+    r#"
+# Each failure has the words of just what was asked; a value that there is has none, and what this debuggee says nothing of fails as ever.
+row why a text has no value
+debuggee willing
+after the entry of a willing debuggee
+> {"seq":4,"type":"request","command":"evaluate","arguments":{"expression":"n \"m\""}}
+turn
+< {"body":{"error":{"format":"{why}","id":1013,"showUser":true,"variables":{"why":"n \"m\""}}},"command":"evaluate","message":"debuggee","request_seq":4,"seq":7,"success":false,"type":"response"}
+> {"seq":5,"type":"request","command":"stackTrace","arguments":{"threadId":1}}
+turn
+< {"body":{"stackFrames":[{"column":1,"id":1,"line":1,"name":"main","source":{"name":"a.c","path":"/a.c","sourceReference":1}}],"totalFrames":1},"command":"stackTrace","request_seq":5,"seq":8,"success":true,"type":"response"}
+> {"seq":6,"type":"request","command":"evaluate","arguments":{"expression":"k","frameId":1}}
+turn
+< {"body":{"error":{"format":"{why}","id":1013,"variables":{"why":"k"}}},"command":"evaluate","message":"debuggee","request_seq":6,"seq":9,"success":false,"type":"response"}
+> {"seq":7,"type":"request","command":"evaluate","arguments":{"expression":"x","frameId":1}}
+turn
+< {"body":{"result":"1","variablesReference":0},"command":"evaluate","request_seq":7,"seq":10,"success":true,"type":"response"}
+> {"seq":8,"type":"request","command":"scopes","arguments":{"frameId":1}}
+turn
+< {"body":{"scopes":[{"expensive":false,"name":"Locals","variablesReference":2}]},"command":"scopes","request_seq":8,"seq":11,"success":true,"type":"response"}
+> {"seq":9,"type":"request","command":"setVariable","arguments":{"variablesReference":2,"name":"k","value":"9"}}
+turn
+< debuggee seq 12 to 9 setVariable
+> {"seq":10,"type":"request","command":"evaluate","arguments":{"expression":"k","frameId":9}}
+turn
+< staleReference seq 13 to 10 evaluate
+references 2
+phase Stopped
+"#,
+    r#"
+# The first failure has 1024 bytes. With one more its reason is left out, and the request fails as it does without one.
+row a reason that just fits, and one that does not
+debuggee willing
+limits 8192 1024 64 65536 4096 9007199254740991 2147483647
+after the entry of a willing debuggee
+> {"seq":4,"type":"request","command":"evaluate","arguments":{"expression":"zzzzzzzzzzzzzzzzzzzzzzzzzzzzzzzzzzzzzzzzzzzzzzzzzzzzzzzzzzzzzzzzzzzzzzzzzzzzzzzzzzzzzzzzzzzzzzzzzzzzzzzzzzzzzzzzzzzzzzzzzzzzzzzzzzzzzzzzzzzzzzzzzzzzzzzzzzzzzzzzzzzzzzzzzzzzzzzzzzzzzzzzzzzzzzzzzzzzzzzzzzzzzzzzzzzzzzzzzzzzzzzzzzzzzzzzzzzzzzzzzzzzzzzzzzzzzzzzzzzzzzzzzzzzzzzzzzzzzzzzzzzzzzzzzzzzzzzzzzzzzzzzzzzzzzzzzzzzzzzzzzzzzzzzzzzzzzzzzzzzzzzzzzzzzzzzzzzzzzzzzzzzzzzzzzzzzzzzzzzzzzzzzzzzzzzzzzzzzzzzzzzzzzzzzzzzzzzzzzzzzzzzzzzzzzzzzzzzzzzzzzzzzzzzzzzzzzzzzzzzzzzzzzzzzzzzzzzzzzzzzzzzzzzzzzzzzzzzzzzzzzzzzzzzzzzzzzzzzzzzzzzzzzzzzzzzzzzzzzzzzzzzzzzzzzzzzzzzzzzzzzzzzzzzzzzzzzzzzzzzzzzzzzzzzzzzzzzzzzzzzzzzzzzzzzzzzzzzzzzzzzzzzzzzzzzzzzzzzzzzzzzzzzzzzzzzzzzzzzzzzzzzzzzzzzzzzzzzzzzzzzzzzzzzzzzzzzzzzzzzzzzzzzzzzzzzzzzzzzzzzzzzzzzzzzzzzzzzzzzzzzzzzzzzzzzzzzzzzzzzzzzzzzzzzzzzzzzzzzzzzzzzzzzzzzzzzzzzzzzzzzzzzzzzzzzzzzzzzzzzzzzzzzzzzzzzzzzzzz"}}
+turn
+< {"body":{"error":{"format":"{why}","id":1013,"showUser":true,"variables":{"why":"zzzzzzzzzzzzzzzzzzzzzzzzzzzzzzzzzzzzzzzzzzzzzzzzzzzzzzzzzzzzzzzzzzzzzzzzzzzzzzzzzzzzzzzzzzzzzzzzzzzzzzzzzzzzzzzzzzzzzzzzzzzzzzzzzzzzzzzzzzzzzzzzzzzzzzzzzzzzzzzzzzzzzzzzzzzzzzzzzzzzzzzzzzzzzzzzzzzzzzzzzzzzzzzzzzzzzzzzzzzzzzzzzzzzzzzzzzzzzzzzzzzzzzzzzzzzzzzzzzzzzzzzzzzzzzzzzzzzzzzzzzzzzzzzzzzzzzzzzzzzzzzzzzzzzzzzzzzzzzzzzzzzzzzzzzzzzzzzzzzzzzzzzzzzzzzzzzzzzzzzzzzzzzzzzzzzzzzzzzzzzzzzzzzzzzzzzzzzzzzzzzzzzzzzzzzzzzzzzzzzzzzzzzzzzzzzzzzzzzzzzzzzzzzzzzzzzzzzzzzzzzzzzzzzzzzzzzzzzzzzzzzzzzzzzzzzzzzzzzzzzzzzzzzzzzzzzzzzzzzzzzzzzzzzzzzzzzzzzzzzzzzzzzzzzzzzzzzzzzzzzzzzzzzzzzzzzzzzzzzzzzzzzzzzzzzzzzzzzzzzzzzzzzzzzzzzzzzzzzzzzzzzzzzzzzzzzzzzzzzzzzzzzzzzzzzzzzzzzzzzzzzzzzzzzzzzzzzzzzzzzzzzzzzzzzzzzzzzzzzzzzzzzzzzzzzzzzzzzzzzzzzzzzzzzzzzzzzzzzzzzzzzzzzzzzzzzzzzzzzzzzzzzzzzzzzzzzzzzzzzzzzzzzzzzzzzzzzzzzzzzzzzzzzzzzzzzzzzzzzzzzzzzzzzzzzzzzzzzz"}}},"command":"evaluate","message":"debuggee","request_seq":4,"seq":7,"success":false,"type":"response"}
+> {"seq":5,"type":"request","command":"evaluate","arguments":{"expression":"zzzzzzzzzzzzzzzzzzzzzzzzzzzzzzzzzzzzzzzzzzzzzzzzzzzzzzzzzzzzzzzzzzzzzzzzzzzzzzzzzzzzzzzzzzzzzzzzzzzzzzzzzzzzzzzzzzzzzzzzzzzzzzzzzzzzzzzzzzzzzzzzzzzzzzzzzzzzzzzzzzzzzzzzzzzzzzzzzzzzzzzzzzzzzzzzzzzzzzzzzzzzzzzzzzzzzzzzzzzzzzzzzzzzzzzzzzzzzzzzzzzzzzzzzzzzzzzzzzzzzzzzzzzzzzzzzzzzzzzzzzzzzzzzzzzzzzzzzzzzzzzzzzzzzzzzzzzzzzzzzzzzzzzzzzzzzzzzzzzzzzzzzzzzzzzzzzzzzzzzzzzzzzzzzzzzzzzzzzzzzzzzzzzzzzzzzzzzzzzzzzzzzzzzzzzzzzzzzzzzzzzzzzzzzzzzzzzzzzzzzzzzzzzzzzzzzzzzzzzzzzzzzzzzzzzzzzzzzzzzzzzzzzzzzzzzzzzzzzzzzzzzzzzzzzzzzzzzzzzzzzzzzzzzzzzzzzzzzzzzzzzzzzzzzzzzzzzzzzzzzzzzzzzzzzzzzzzzzzzzzzzzzzzzzzzzzzzzzzzzzzzzzzzzzzzzzzzzzzzzzzzzzzzzzzzzzzzzzzzzzzzzzzzzzzzzzzzzzzzzzzzzzzzzzzzzzzzzzzzzzzzzzzzzzzzzzzzzzzzzzzzzzzzzzzzzzzzzzzzzzzzzzzzzzzzzzzzzzzzzzzzzzzzzzzzzzzzzzzzzzzzzzzzzzzzzzzzzzzzzzzzzzzzzzzzzzzzzzzzzzzzzzzzzzzzzzzzzzzzzzzzzzzzzzzzzzzzzzzz"}}
+turn
+< debuggee seq 8 to 5 evaluate
+kept 0
 "#,
     r#"
 # The terminal is there, and the debuggee refuses: `launch` fails, and the next one asks again.

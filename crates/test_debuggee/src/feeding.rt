@@ -6,6 +6,8 @@
 //! | `!empty` | the same with more told later, of a moment whose first scope came with no variables |
 //! | `!tell:HOLDER:NAME:VALUE` | the same with a variable of a holder |
 //! | `!learn:TEXT:VALUE` | the same with the value of a text, whose parts are those of holder 70 |
+//! | `!no:TEXT:WHY` | the same with why a text has no value |
+//! | `!why:TEXT` | why a text has no value, why no variable gets it, and why there are no scopes, each `-` where that is not said |
 //! | `!sources` | the same with the sources of the recording, once more |
 //! | `!dropped` | why what was told last is dropped |
 //! | `!acts` | what the host has to do since it was asked last |
@@ -14,7 +16,7 @@
 
 use crate::playing::{add_answer, add_poll};
 use crate::telling::{Query, add_told};
-use dap_debuggee::{HasMail, Variable};
+use dap_debuggee::{Debuggee, Explanation, HasMail, RefusedQuery, Variable};
 use dap_json::{List, More, Text};
 use dap_live::{Coming, Dropped, HostAct, Live, Mail};
 use dap_recording::{Recording, Snapshot, Sources, Texts};
@@ -93,6 +95,18 @@ fn learned(alloc: Global, words: &str) -> Option<Coming> {
     })
 }
 
+/// `TEXT:WHY`.
+fn no_value(alloc: Global, words: &str) -> Option<Coming> {
+    let (name, why) = words.split_once(":")?;
+    Some(Coming::NoValue {
+        text: text(alloc, name)?,
+        why: Explanation {
+            text: text(alloc, why)?,
+            show_user: true,
+        },
+    })
+}
+
 fn sources(alloc: Global) -> Option<Coming> {
     Some(Coming::Sources(its_sources(alloc)?))
 }
@@ -109,6 +123,7 @@ fn coming(alloc: Global, word: &str) -> Option<Coming> {
             match word {
                 "!tell" => variables(alloc, rest),
                 "!learn" => learned(alloc, rest),
+                "!no" => no_value(alloc, rest),
                 _ => None,
             }
         }
@@ -176,6 +191,29 @@ fn add_heard(alloc: Global, live: &mut Live, word: &str, answers: &mut String) -
     }
 }
 
+/// Why a text has no value in no frame, and why no variable gets it.
+fn add_why(alloc: Global, live: &Live, text: &str, answers: &mut String) -> bool {
+    let (frame, holder, name) = (None, 0, "x");
+    let queries = [
+        RefusedQuery::Evaluate { frame, text },
+        RefusedQuery::Assigned { holder, name, text },
+        RefusedQuery::Scopes { frame: 0 },
+    ];
+    for query in &queries {
+        let Ok(told) = live.why(alloc, *query) else {
+            return false;
+        };
+        let is_told = match &told {
+            None => answers.push_str("-").is_ok(),
+            Some(told) => answers.push_str(told.text.as_str()).is_ok(),
+        };
+        if !is_told {
+            return false;
+        }
+    }
+    true
+}
+
 fn add_word(alloc: Global, live: &mut Live, word: &str, answers: &mut String) -> bool {
     match word {
         "!dropped" => add_reason(alloc, live, answers),
@@ -183,7 +221,9 @@ fn add_word(alloc: Global, live: &mut Live, word: &str, answers: &mut String) ->
         "!all-sources" => add_told(alloc, live, Query::Sources, answers),
         "!second-text" => add_told(alloc, live, Query::Content(1), answers),
         _ => {
-            if word.starts_with("!") {
+            if let Some(text) = word.strip_prefix("!why:") {
+                add_why(alloc, live, text, answers)
+            } else if word.starts_with("!") {
                 add_heard(alloc, live, word, answers)
             } else {
                 add_answer(alloc, live, word, answers)
@@ -217,7 +257,7 @@ fn is_fed(alloc: Global, words: &str, wanted: &str) -> bool {
     is_so
 }
 
-static FEEDS: [(&str, &str); 11] = [
+static FEEDS: [(&str, &str); 12] = [
     // A moment that is whole.
     (
         "start !stop children:0 children:1 value:0:x",
@@ -267,6 +307,11 @@ static FEEDS: [(&str, &str); 11] = [
     (
         "line start start pause next !acts !stop pause !learn:9:9 assign:1:x:9 assign:1:y:9 clear next end !acts !acts",
         "set; done; refused; done; refused; lines start pause ; step 1 line 1; refused; nothing; set; refused; set; done; ended; assign lines resume end ; ; ",
+    ),
+    // Why a text has no value is of that text alone, also where the moment has one, and is forgotten by the next poll.
+    (
+        "start !stop !why:q !no:x:gone value:0:x !why:x !why:q !learn:x:5 !why:x !no:q:lost !sources !why:q value:0:x",
+        "done; step 1 line 1; ---; nothing; refused; gonegone-; ---; nothing; ---; nothing; nothing; ---; 1; ",
     ),
     // What a text comes to is forgotten by the next poll.
     (

@@ -1,9 +1,10 @@
--- A debuggee of the tests: a recording that may refuse its first start, though it could start, and whose variables take one long value.
+-- A debuggee of the tests: a recording that may refuse its first start, though it could start, whose variables take one long value, and that says why a text has no value.
 -- It shows that the laws hold of more than one debuggee.
-use Rattle.std.proofs.Common.{◌≡◌, ℕ, ◌+◌, ◌%◌, ◌^◌, ◌⊎◌, inl, inr, Bool, true, false, not, arith, List, codes, IsTrue, Option, Some, refl, sym, ap, subst, ◌∙◌}
+use Rattle.std.proofs.Common.{◌≡◌, ℕ, ◌+◌, ◌%◌, ◌^◌, ◌⊎◌, inl, inr, Bool, true, false, not, arith, List, codes, IsTrue, Option, Some, None, refl, sym, ap, subst, ◌∙◌}
 use Rattle.dap_command.specs.declared.source_key.SourceKey.{SourceKey}
-use Rattle.dap_debuggee.specs.Shown.{Shown, Act, to_start, to_resume, to_pause, to_poll, to_set_breakpoints, to_assign, to_end, Reply, done, refused, happened, asked_of_act, Last}
+use Rattle.dap_debuggee.specs.Shown.{Shown, Act, to_start, to_resume, to_pause, to_poll, to_set_breakpoints, to_assign, to_end, Reply, done, refused, happened, asked_of_act, Last, Query, for_value}
 use Rattle.dap_debuggee.specs.declared.answers.Assigned.{Assigned}
+use Rattle.dap_debuggee.specs.declared.explanation.Explanation.{Explanation}
 use Rattle.dap_debuggee.specs.Laws.{may_answer, state_after, lines_after, keeps_answers, keeps_frames, Counts, Remembers, Answers, Moves, SetsLines, SetsValues, SetsOneValue, KeepsAnswers, KeepsFrames, KeepsSources, FramesStay, SourcesStay, SameFrames, SameSources, SameAnswers, NoThreads, VerifiesEach, AssignsVariables}
 use Rattle.dap_replay.specs.Played.{Played, lines_in, shown_of, FollowsPlayed}
 use Rattle.dap_debuggee.specs.StayLaws.{frames-stay, sources-stay}
@@ -35,11 +36,21 @@ abbrev pub last_of : Mood → Option Last → Option Last
 last_of mood.JustRefused last = Some (record { asked = Start; reply = refused })
 last_of _ last = last
 
+-- why a text has no value: the text itself; the user sees it where no frame was named
+abbrev pub is_of_no_frame : Option ℕ → Bool
+is_of_no_frame None = true
+is_of_no_frame (Some frame) = false
+
+abbrev pub why_stubborn : Query → Option Explanation
+why_stubborn (for_value frame text) = Some (record { text = text; show_user = is_of_no_frame frame })
+why_stubborn _ = None
+
 abbrev pub shown_stubborn : StubbornView → Shown
 shown_stubborn v = record (shown_of v.inner) {
   acts = (v.inner.acts + unknown_starts v.mood) % 2 ^ 64;
   last = last_of v.mood v.inner.last;
   assigned = λ holder name text. (shown_of v.inner).assigned holder name long_value;
+  why = why_stubborn;
 }
 
 -- ---- what an act does

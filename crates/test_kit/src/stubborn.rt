@@ -1,11 +1,12 @@
-//! A second debuggee: a recording that may refuse its first start, and whose variables take one long value.
+//! A second debuggee: a recording that may refuse its first start, whose variables take one long value, and that says why a
+//! text has no value: it is the text itself.
 ghost use Rattle.std.specs.Prelude.{◌≡◌};
 ghost use Rattle.test_kit.specs.Stubborn.{long_value};
 
 use dap_command::SourceKey;
 use dap_debuggee::{
-    Assigned, Debuggee, DebuggeeFault, Evaluation, Frame, Happening, How, Scope, Source, Thread,
-    Variable,
+    Assigned, Debuggee, DebuggeeFault, Evaluation, Explanation, Frame, Happening, How,
+    RefusedQuery, Scope, Source, Thread, Variable,
 };
 use dap_json::Text;
 use dap_replay::Recorded;
@@ -208,6 +209,20 @@ impl Debuggee for Stubborn {
         lines: &[u32],
     ) -> Result<Vec<bool>, DebuggeeFault> {
         self.inner.verify(alloc, source, lines)
+    }
+
+    fn why(
+        &self,
+        alloc: Global,
+        query: RefusedQuery<'_>,
+    ) -> Result<Option<Explanation>, AllocError> {
+        match query {
+            RefusedQuery::Evaluate { frame, text } => Ok(Some(Explanation {
+                text: Text::copied(alloc, text)?,
+                show_user: frame.is_none(),
+            })),
+            _ => Ok(None),
+        }
     }
 
     ghost counts = { counts-stubborn };

@@ -8,10 +8,10 @@ use Rattle.dap_session.proofs.session.Session.change_or_fail.Goals as goal
 
 pub returns-in_ok-make_change-in-Ok-clause-carries : goal.returns-in_ok-make_change-in-Ok-clause-carries
 returns-in_ok-make_change-in-Ok-clause-carries g c =
-    change-carries g.D.Debuggee.follows _ c.args.self.now c.make_change.new.self c.commit.new.self c.args.request.now c.weigh.new.out _ c.in-Ok.ensures.measured c.in_ok-make_change-in-Ok.ensures.changes c.commit.ensures.session refl
+    change-carries g.D.Debuggee.follows _ _ c.args.self.now c.make_change.new.self c.commit.new.self c.args.request.now c.weigh.new.out _ c.in-Ok.ensures.measured c.in_ok-make_change-in-Ok.ensures.changes c.commit.ensures.session refl
 
 pub returns-in-Err-Fails-clause-carries : goal.returns-in-Err-Fails-clause-carries
 returns-in-Err-Fails-clause-carries g c =
-    each-done c.answer.result _ _
-    (λ made. subst (λ (p : Plan). Carries g.D.Debuggee.follows p c.args.self.now c.answer.new.self c.answer.new.out.bytes) (sym (rw c.in-Err-Fails.field-0-is at c.in-Err-Fails.ensures.fails)) (at_once_carries g.D.Debuggee.follows _ _ _ _ made c.answer.ensures.debuggee))
-    c.answer.ensures.made
+    each-done c.fail.result _ _
+    (λ made. subst (λ (p : Plan). Carries g.D.Debuggee.follows p c.args.self.now c.fail.new.self c.fail.new.out.bytes) (sym (rw (c.in-Err-Fails.field-0-is, ← c.query_before-query.ensures) at c.in-Err-Fails.ensures.fails)) (at_once_carries g.D.Debuggee.follows _ _ _ _ made c.fail.ensures.debuggee))
+    c.fail.ensures.made
