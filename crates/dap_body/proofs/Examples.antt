@@ -64,8 +64,8 @@ text_for_the_user = refl
 
 -- ---- responses
 
-two_lines : compact_text (set_breakpoints_body (record { id = 1; line = 3; verified = true } ∷ record { id = 2; line = 9; verified = false } ∷ []))
-    ≡ codes "{\"breakpoints\":[{\"id\":1,\"line\":3,\"verified\":true},{\"id\":2,\"line\":9,\"verified\":false}]}"
+two_lines : compact_text (set_breakpoints_body (record { id = 1; line = 3; verified = true; message = None; more = [] } ∷ record { id = 2; line = 9; verified = false; message = Some (codes "no code"); more = [] } ∷ []))
+    ≡ codes "{\"breakpoints\":[{\"id\":1,\"line\":3,\"verified\":true},{\"id\":2,\"line\":9,\"message\":\"no code\",\"verified\":false}]}"
 unfolding escape_byte digits
 two_lines = refl
 

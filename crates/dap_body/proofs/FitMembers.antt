@@ -47,6 +47,7 @@ own_fields_are_in_order = record {
   stack_frame = λ f. refl;
   scope = λ s. refl;
   variable = λ v. refl;
+  breakpoint = λ b. refl;
   evaluate = λ result reference. refl;
   set_variable = λ value. refl;
   output = λ category text. refl;

@@ -31,7 +31,7 @@ use Rattle.dap_body.specs.declared.event.EventBody.TheVariants.{Output, Stopped,
 use Rattle.dap_body.specs.declared.body.Body.{Body}
 use Rattle.dap_body.specs.declared.body.Body.TheVariants.{Initialize, SetBreakpoints, Threads, Continue, StackTrace, Scopes, Variables, SetVariable, Evaluate, Source as SourceText, LoadedSources, RunInTerminal}
 use Rattle.dap_body.specs.EventBody.{output_fields, output_row, stopped_fields, stopped_row, continued_row, exited_row}
-use Rattle.dap_body.specs.ResponseBody.{breakpoint, thread_fields, thread, source_fields, source, stack_frame_fields, stack_frame, scope_fields, scope, variable_fields, variable, evaluate_fields, evaluate_row, set_variable_fields, set_variable_row, set_breakpoints_row, threads_row, stack_trace_row, scopes_row, variables_row, loaded_sources_row, run_in_terminal_row}
+use Rattle.dap_body.specs.ResponseBody.{breakpoint_fields, breakpoint, thread_fields, thread, source_fields, source, stack_frame_fields, stack_frame, scope_fields, scope, variable_fields, variable, evaluate_fields, evaluate_row, set_variable_fields, set_variable_row, set_breakpoints_row, threads_row, stack_trace_row, scopes_row, variables_row, loaded_sources_row, run_in_terminal_row}
 use Rattle.dap_body.specs.Row.{Field, Row, Value, text, whole, integer, flag, tree, text_if_any, whole_if_any, tree_if_any, value_data, with_member, members_of, object_of, list_of}
 use Rattle.dap_body.specs.PlainBodies.{IsPlain, ResponseBodiesArePlain, FailureBodiesArePlain, ExplainedBodiesArePlain, EventBodiesArePlain}
 use Rattle.dap_body.specs.declared.response.Thread.{Thread}
@@ -207,6 +207,9 @@ scope_plain s = beside_plain 99 (scope_fields s) s.more (omega arith) tt
 variable_plain : (v : Variable) → HasPlain 99 (variable v)
 variable_plain v = beside_plain 99 (variable_fields v) v.more (omega arith) tt
 
+breakpoint_plain : (b : Breakpoint) → HasPlain 99 (breakpoint b)
+breakpoint_plain b = beside_plain 99 (breakpoint_fields b) b.more (omega arith) tt
+
 frame_plain : (f : StackFrame) → HasPlain 100 (stack_frame f)
 frame_plain f = beside_plain 100 (stack_frame_fields f) f.more (omega arith) (object_if_any 99 source source_plain f.source, tt)
 
@@ -216,7 +219,7 @@ lists_plain n each le h xs = up (suc (suc n)) (list_of each xs) (omega arith) (l
 pub response_bodies_are_plain : ResponseBodiesArePlain
 response_bodies_are_plain = record {
   initialize = capabilities_plain;
-  set_breakpoints = λ bs. row_plain (set_breakpoints_row bs) (lists_plain 1 breakpoint (omega arith) (λ b. tt) bs, tt);
+  set_breakpoints = λ bs. row_plain (set_breakpoints_row bs) (lists_plain 99 breakpoint (omega arith) breakpoint_plain bs, tt);
   threads = λ ts. row_plain (threads_row ts) (lists_plain 99 thread (omega arith) thread_plain ts, tt);
   continue = refl;
   stack_trace = λ fs total. row_plain (stack_trace_row fs total) (lists_plain 100 stack_frame (omega arith) frame_plain fs, tt);

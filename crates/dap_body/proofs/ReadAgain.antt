@@ -10,7 +10,7 @@ use Rattle.serde_json.specs.Find.{get}
 use Rattle.dap_json.specs.declared.more.Member.{Member}
 use Rattle.dap_body.specs.BesideLaws.{is_own}
 use Rattle.dap_body.proofs.FitMembers.{own}
-use Rattle.dap_body.specs.ResponseBody.{thread_fields, thread, source_fields, source, stack_frame_fields, stack_frame, scope_fields, scope, variable_fields, variable, breakpoint, evaluate_fields, set_variable_fields, threads_body, stack_trace_body, scopes_body, variables_body, set_breakpoints_body, loaded_sources_body, evaluate_body}
+use Rattle.dap_body.specs.ResponseBody.{thread_fields, thread, source_fields, source, stack_frame_fields, stack_frame, scope_fields, scope, variable_fields, variable, breakpoint_fields, breakpoint, evaluate_fields, set_variable_fields, threads_body, stack_trace_body, scopes_body, variables_body, set_breakpoints_body, loaded_sources_body, evaluate_body}
 use Rattle.dap_body.specs.Row.{Row, object_of}
 use Rattle.dap_body.specs.declared.body.Body.TheVariants as body
 use Rattle.dap_body.specs.declared.response.Breakpoint.{Breakpoint}
@@ -80,9 +80,21 @@ unfolding variable_of
 variable_again v e =
     rw (own (variable_fields v) v.more (codes "name") refl refl, own (variable_fields v) v.more (codes "value") refl refl, own (variable_fields v) v.more (codes "variablesReference") refl refl) (rw e)
 
+breakpoint_with : (message : Option (List ℕ)) (id line : ℕ) (verified : Bool) (more : List Member) → is_whole id ≡ true → is_number line ≡ true
+    → breakpoint_of (object_of (breakpoint_fields (record { id = id; line = line; verified = verified; message = message; more = more }))) ≡ Ok (breakpoint_read (record { id = id; line = line; verified = verified; message = message; more = more }))
+unfolding breakpoint_of
+breakpoint_with None id line verified more i l = rw (i, l) refl
+breakpoint_with (Some text) id line verified more i l = rw (i, l) refl
+
+at_breakpoint : (b : Breakpoint) (key : List ℕ) → is_own key (breakpoint_fields b) ≡ true → get key (object_of (breakpoint b)) ≡ get key (object_of (breakpoint_fields b))
+at_breakpoint b key o = own (breakpoint_fields b) b.more key refl o
+
 breakpoint_again : (b : Breakpoint) → breakpoint_fits b ≡ true → breakpoint_of (object_of (breakpoint b)) ≡ Ok (breakpoint_read b)
 unfolding breakpoint_of
-breakpoint_again b e = let p = and_parts (is_whole b.id) (is_number b.line) e in rw (p.0, p.1)
+breakpoint_again b e =
+    let p = and_parts (is_whole b.id) (is_number b.line) e in
+    rw (at_breakpoint b (codes "id") refl, at_breakpoint b (codes "verified") refl, at_breakpoint b (codes "line") refl, at_breakpoint b (codes "message") refl)
+    (breakpoint_with b.message b.id b.line b.verified b.more p.0 p.1)
 
 -- ---- lists
 

@@ -8,7 +8,8 @@ use Rattle.dap_json.specs.declared.more.Member.{Member}
 use Rattle.dap_body.specs.Beside.{beside, fit_members}
 use Rattle.dap_body.specs.EventBody.{output_body, output_fields, stopped_body, stopped_fields}
 use Rattle.dap_body.specs.Row.{Row, is_in_order, object_of, text, whole}
-use Rattle.dap_body.specs.ResponseBody.{thread_fields, source_fields, stack_frame_fields, scope_fields, variable_fields, evaluate_fields, evaluate_body, set_variable_fields, set_variable_body}
+use Rattle.dap_body.specs.ResponseBody.{breakpoint_fields, thread_fields, source_fields, stack_frame_fields, scope_fields, variable_fields, evaluate_fields, evaluate_body, set_variable_fields, set_variable_body}
+use Rattle.dap_body.specs.declared.response.Breakpoint.{Breakpoint}
 use Rattle.dap_body.specs.declared.response.Scope.{Scope}
 use Rattle.dap_body.specs.declared.response.Source.{Source}
 use Rattle.dap_body.specs.declared.response.StackFrame.{StackFrame}
@@ -40,6 +41,7 @@ pub record OwnFieldsAreInOrder : Type 0 where
   pub stack_frame : (f : StackFrame) → is_in_order (stack_frame_fields f) ≡ true
   pub scope : (s : Scope) → is_in_order (scope_fields s) ≡ true
   pub variable : (v : Variable) → is_in_order (variable_fields v) ≡ true
+  pub breakpoint : (b : Breakpoint) → is_in_order (breakpoint_fields b) ≡ true
   pub evaluate : (result : List ℕ) (reference : ℕ) → is_in_order (evaluate_fields result reference) ≡ true
   pub set_variable : (value : List ℕ) → is_in_order (set_variable_fields value) ≡ true
   pub output : (category output : List ℕ) → is_in_order (output_fields category output) ≡ true

@@ -35,7 +35,7 @@ abbrev pub variable_read : Variable → VariableParts
 variable_read v = record { name = v.name; value = v.value; variables_reference = v.variables_reference }
 
 abbrev pub breakpoint_read : Breakpoint → BreakpointParts
-breakpoint_read b = record { id = Some b.id; verified = b.verified; line = Some b.line; message = None }
+breakpoint_read b = record { id = Some b.id; verified = b.verified; line = Some b.line; message = b.message }
 
 -- ---- whether its numbers are in their ranges
 

@@ -14,8 +14,11 @@ use Rattle.dap_body.specs.declared.response.Variable.{Variable}
 
 -- ---- the objects of lists: their own fields, and these with what stands beside
 
+abbrev pub breakpoint_fields : Breakpoint → Row
+breakpoint_fields b = (codes "id", whole b.id) ∷ (codes "line", whole b.line) ∷ (codes "message", text_if_any b.message) ∷ (codes "verified", flag b.verified) ∷ []
+
 abbrev pub breakpoint : Breakpoint → Row
-breakpoint b = (codes "id", whole b.id) ∷ (codes "line", whole b.line) ∷ (codes "verified", flag b.verified) ∷ []
+breakpoint b = beside (breakpoint_fields b) b.more
 
 abbrev pub thread_fields : Thread → Row
 thread_fields t = (codes "id", integer t.id) ∷ (codes "name", text t.name) ∷ []

@@ -17,13 +17,18 @@ use json::Writer;
 use serde_json::Value;
 use std::alloc::{AllocError, Global};
 
-/// A breakpoint as it is answered: its line is the one that was asked for.
+/// A breakpoint as it is answered.
 #[derive(Debug, Drop)]
 pub struct Breakpoint {
     pub id: u64,
+    /// Where it is: the line that was asked for, or another one.
     pub line: u32,
-    /// Whether there is such a line.
+    /// Whether it can stop there.
     pub verified: bool,
+    /// Why it can't, or what else is to be known.
+    pub message: Option<Text>,
+    /// What stands beside these.
+    pub more: More,
 }
 
 impl Fields for Breakpoint {
@@ -32,9 +37,15 @@ impl Fields for Breakpoint {
     ghost written = { breakpoint };
 
     fn write(&self, out: &mut Writer) -> Result<(), AllocError> {
+        let left = put_before(out, "id", fit_members(&self.more))?;
         put_number(out, "id", self.id)?;
+        let left = put_before(out, "line", left)?;
         put_short(out, "line", self.line)?;
-        put_flag(out, "verified", self.verified)
+        let left = put_before(out, "message", left)?;
+        put_text_if_any(out, "message", &self.message)?;
+        let left = put_before(out, "verified", left)?;
+        put_flag(out, "verified", self.verified)?;
+        put_left(out, left)
     }
 }
 

@@ -17,6 +17,7 @@ use Rattle.dap_debuggee.specs.declared.answers.DebuggeeFault.TheVariants.{Refuse
 use Rattle.dap_debuggee.specs.declared.answers.Frame.{Frame}
 use Rattle.dap_debuggee.specs.declared.answers.Variable.{Variable}
 use Rattle.dap_debuggee.specs.declared.answers.Assigned.{Assigned}
+use Rattle.dap_debuggee.specs.declared.answers.Placement.{Placement}
 
 -- ---- what a call returned, want of memory aside
 
@@ -234,7 +235,7 @@ NoThreads {View} shown = (v : View) → ((shown v).state ≡ NotStarted → (sho
 
 -- one answer for each line asked
 abbrev pub VerifiesEach : {View : Type 0} → (View → Shown) → Type 0
-VerifiesEach {View} shown = (v : View) (source : SourceKey) (lines : List ℕ) (answers : List Bool) → (shown v).verify source lines ≡ Some answers → length answers ≡ length lines
+VerifiesEach {View} shown = (v : View) (source : SourceKey) (lines : List ℕ) (answers : List Placement) → (shown v).verify source lines ≡ Some answers → length answers ≡ length lines
 
 -- only a variable that is there can be set
 abbrev pub AssignsVariables : {View : Type 0} → (View → Shown) → Type 0

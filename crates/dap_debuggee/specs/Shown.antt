@@ -1,5 +1,5 @@
 -- What a debuggee shows in a view: where it stands, what it was last asked, and what it answers to each query.
-use Rattle.std.specs.Prelude.{ℕ, ℤ, Bool, List, take, drop, nat_lt, codes, Option, if◌then◌else◌}
+use Rattle.std.specs.Prelude.{ℕ, ℤ, Bool, List, [], take, drop, nat_lt, codes, Option, None, if◌then◌else◌}
 use Rattle.dap_command.specs.declared.source_key.SourceKey.{SourceKey}
 use Rattle.dap_debuggee.specs.declared.answers.State.{State}
 use Rattle.dap_debuggee.specs.declared.answers.How.{How}
@@ -14,6 +14,7 @@ use Rattle.dap_debuggee.specs.declared.answers.Scope.{Scope}
 use Rattle.dap_debuggee.specs.declared.answers.Variable.{Variable}
 use Rattle.dap_debuggee.specs.declared.answers.Evaluation.{Evaluation}
 use Rattle.dap_debuggee.specs.declared.answers.Assigned.{Assigned}
+use Rattle.dap_debuggee.specs.declared.answers.Placement.{Placement}
 use Rattle.dap_debuggee.specs.declared.answers.Source.{Source}
 use Rattle.dap_debuggee.specs.declared.explanation.Explanation.{Explanation}
 use Rattle.dap_debuggee.specs.declared.explanation.RefusedQuery.{RefusedQuery}
@@ -100,10 +101,14 @@ pub record Shown : Type 0 where
   pub sources : List Source
   -- the text of a source, by its index
   pub content : ℕ → Option (List ℕ)
-  -- of each line asked whether a breakpoint can stand there
-  pub verify : SourceKey → List ℕ → Option (List Bool)
+  -- of each line asked where a breakpoint is, and whether it can stop there
+  pub verify : SourceKey → List ℕ → Option (List Placement)
   -- why a query is refused, where that is said; no law speaks of it
   pub why : Query → Option Explanation
+
+-- a breakpoint that is where it was asked for
+abbrev pub as_asked : Bool → ℕ → Placement
+as_asked verified line = record { verified = verified; line = line; message = None; more = [] }
 
 -- a part of a list: from the place `start` on, counted from 0, at most `count` elements where `count` is above 0
 abbrev pub window : {A : Type 0} → ℕ → ℕ → List A → List A

@@ -166,6 +166,19 @@ pub struct Assigned {
     pub more: More,
 }
 
+/// A breakpoint at a line that was asked for: Specification, "Breakpoint".
+#[derive(Debug, Drop)]
+pub struct Placement {
+    /// Whether it can stop there.
+    pub verified: bool,
+    /// Where it is, counted from 1: the line that was asked for, or another one.
+    pub line: u32,
+    /// Why it can't stop, or what else is to be known of it.
+    pub message: Option<Text>,
+    /// What is to be said beside these, in the members of its object.
+    pub more: More,
+}
+
 /// Specification, "Source".
 #[derive(Debug, Drop)]
 pub struct Source {
@@ -176,6 +189,22 @@ pub struct Source {
     pub on_disk: bool,
     /// What is to be said beside these, in the members of its object.
     pub more: More,
+}
+
+impl Placement {
+    ghost use Rattle.dap_debuggee.specs.Shown.{as_asked};
+
+    /// A breakpoint that is where it was asked for.
+    pub fn as_asked(line: u32, verified: bool) -> Placement
+        ensures { result ≡ as_asked verified line }
+    {
+        Placement {
+            verified,
+            line,
+            message: None,
+            more: More::none(),
+        }
+    }
 }
 
 impl Category {

@@ -6,7 +6,8 @@
 ghost use Rattle.std.specs.Prelude.{◌≡◌, IfOk, OnOk};
 
 use crate::answers::{
-    Assigned, DebuggeeFault, Evaluation, Frame, Happening, How, Scope, Source, Thread, Variable,
+    Assigned, DebuggeeFault, Evaluation, Frame, Happening, How, Placement, Scope, Source, Thread,
+    Variable,
 };
 use crate::explanation::{Explanation, RefusedQuery};
 use dap_command::SourceKey;
@@ -160,14 +161,15 @@ pub trait Debuggee {
     fn content(&self, alloc: Global, index: u32) -> Result<Text, DebuggeeFault>
         ensures { AnswersQuery result (λ text. text) ((shown self.now).content index) };
 
-    /// Of each line, counted from 1, whether a breakpoint can stand there: one answer for each, in order. A source or a line
-    /// that you do not have is `false`. `Refused` where it cannot be told: that fails the whole request.
+    /// Of each line, counted from 1, where a breakpoint is that is set there, and whether it can stop: one answer for each, in
+    /// order. One that you move has the line where it is; `lines` still has the one that was asked for. A source or a line that you
+    /// do not have is not verified, perhaps with a message. `Refused` where it cannot be told: that fails the whole request.
     fn verify(
         &self,
         alloc: Global,
         source: &SourceKey,
         lines: &[u32],
-    ) -> Result<Vec<bool>, DebuggeeFault>
+    ) -> Result<Vec<Placement>, DebuggeeFault>
         ensures { AnswersQuery result (λ answers. answers.items) ((shown self.now).verify source.now lines.now) };
 
     /// Why a query was refused, which the client is told with the failure. Asked once that query was refused, with nothing asked

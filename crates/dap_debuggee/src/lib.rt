@@ -12,8 +12,8 @@ mod explanation;
 mod mail;
 
 pub use answers::{
-    Asked, Assigned, Category, DebuggeeFault, Evaluation, Frame, Happening, How, Scope, Source,
-    State, Thread, Variable,
+    Asked, Assigned, Category, DebuggeeFault, Evaluation, Frame, Happening, How, Placement, Scope,
+    Source, State, Thread, Variable,
 };
 pub use debuggee::Debuggee;
 pub use explanation::{Explanation, RefusedQuery};

@@ -13,7 +13,7 @@ use crate::mail::{Coming, Dropped, HostAct, Mail};
 use dap_command::SourceKey;
 use dap_debuggee::{
     Asked, Assigned, Debuggee, DebuggeeFault, Evaluation, Explanation, Frame, Happening, HasMail,
-    How, RefusedQuery, Scope, Source, State, Thread, Variable,
+    How, Placement, RefusedQuery, Scope, Source, State, Thread, Variable,
 };
 use dap_json::{List, More, Text};
 use dap_recording::variables::{self, HolderMap};
@@ -670,7 +670,7 @@ impl Debuggee for Live {
         alloc: Global,
         source: &SourceKey,
         lines: &[u32],
-    ) -> Result<Vec<bool>, DebuggeeFault> {
+    ) -> Result<Vec<Placement>, DebuggeeFault> {
         Ok(self.sources.verify(alloc, source, lines)?)
     }
 

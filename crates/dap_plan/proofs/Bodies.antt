@@ -37,6 +37,7 @@ use Rattle.dap_plan.specs.Session.{Session, query_of}
 use Rattle.dap_plan.proofs.Kept.{eqb-self}
 use Rattle.dap_plan.proofs.Outcomes.{failing-is}
 use Rattle.dap_plan.proofs.ServedInOrder.{behind-others}
+use Rattle.dap_debuggee.specs.declared.answers.Placement.{Placement}
 
 -- ---- what the first answer says
 
@@ -155,13 +156,13 @@ change-says : (s : Session) (r : Entry) (why : Option Explanation) (due : Change
 change-says s r why (Err f) last x body names k h = fails-so s r f why body names h
 change-says s r why (Ok c) last x body names k h = either-plan (fits s r c.body) _ _ last r.seq body names x (λ y. said r _ [] body names y ∙ k c refl) (λ n. fails r TooLarge [] body names n) h
 
-lines-some : (b : Bool) (s : Session) (key : SourceKey) (lines : List ℕ) (verified : List Bool) (c : Change) → (let due : ChangeResult = (if b then Err TooManyBreakpoints else Ok (lines_change s key lines verified)) in due) ≡ Ok c → is_some c.body ≡ true
+lines-some : (b : Bool) (s : Session) (key : SourceKey) (lines : List ℕ) (verified : List Placement) (c : Change) → (let due : ChangeResult = (if b then Err TooManyBreakpoints else Ok (lines_change s key lines verified)) in due) ≡ Ok c → is_some c.body ≡ true
 lines-some true s key lines verified c e = absurd (cc e)
 lines-some false s key lines verified c e =
     let same : lines_change s key lines verified ≡ c = cc in
     subst (λ (x : Change). is_some x.body ≡ true) same refl
 
-lines-told : (s : Session) (key : SourceKey) (lines : List ℕ) (o : Option (List Bool)) (c : Change) → lines_result s key lines o ≡ Ok c → is_some c.body ≡ true
+lines-told : (s : Session) (key : SourceKey) (lines : List ℕ) (o : Option (List Placement)) (c : Change) → lines_result s key lines o ≡ Ok c → is_some c.body ≡ true
 lines-told s key lines None c e = absurd (cc e)
 lines-told s key lines (Some verified) c e = lines-some (are_too_many s.limits key lines s.breakpoints) s key lines verified c e
 

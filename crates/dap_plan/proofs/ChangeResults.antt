@@ -40,6 +40,7 @@ use Rattle.dap_decision.specs.declared.phase.Phase.{Phase}
 use Rattle.dap_outbox.specs.Outbox.{OutboxState}
 use Rattle.dap_plan.specs.Changing.{AreLines, IsChange, Suits, IsMeasured, Changes}
 use Rattle.dap_decision.specs.Table.{Row, rows_of, effect_in, is_among}
+use Rattle.dap_debuggee.specs.declared.answers.Placement.{Placement}
 
 -- ---- lines that were read are in range
 
@@ -178,13 +179,13 @@ pub record LinesDue (s : Session) (key : SourceKey) (lines : List ℕ) (c : Chan
   pub act : c.act ≡ to_set_breakpoints key (lines_asked s.options lines)
   pub breakpoints : c.breakpoints ≡ breakpoints_with key (lines_asked s.options lines) s.breakpoints
 
-lines-by : (b : Bool) (s : Session) (key : SourceKey) (lines : List ℕ) (verified : List Bool) (c : Change) → are_too_many s.limits key lines s.breakpoints ≡ b → (let out : ChangeResult = (if b then Err TooManyBreakpoints else Ok (lines_change s key lines verified)) in out) ≡ Ok c → LinesDue s key lines c
+lines-by : (b : Bool) (s : Session) (key : SourceKey) (lines : List ℕ) (verified : List Placement) (c : Change) → are_too_many s.limits key lines s.breakpoints ≡ b → (let out : ChangeResult = (if b then Err TooManyBreakpoints else Ok (lines_change s key lines verified)) in out) ≡ Ok c → LinesDue s key lines c
 lines-by true s key lines verified c is e = absurd (cc e)
 lines-by false s key lines verified c is e =
     let same : lines_change s key lines verified ≡ c = cc in
     record { few = is; act = ap (λ (x : Change). x.act) (sym same); breakpoints = ap (λ (x : Change). x.breakpoints) (sym same) }
 
-pub lines-due : (s : Session) (key : SourceKey) (lines : List ℕ) (o : Option (List Bool)) (c : Change) → lines_result s key lines o ≡ Ok c → LinesDue s key lines c
+pub lines-due : (s : Session) (key : SourceKey) (lines : List ℕ) (o : Option (List Placement)) (c : Change) → lines_result s key lines o ≡ Ok c → LinesDue s key lines c
 lines-due s key lines None c e = absurd (cc e)
 lines-due s key lines (Some verified) c e = lines-by (are_too_many s.limits key lines s.breakpoints) s key lines verified c refl e
 
@@ -207,7 +208,7 @@ value-due view s asked None c e = absurd (cc e)
 value-due view s asked (Some holder) c e = assigned-due view s asked holder (view.assigned holder asked.name asked.value) c refl e
 
 -- what is told of it gives its answer
-pub lines-told : (s : Session) (key : SourceKey) (lines : List ℕ) (o : Option (List Bool)) (verified : List Bool) (answers : List BreakpointBody) → o ≡ Some verified → are_too_many s.limits key lines s.breakpoints ≡ false → answers ≡ answers_to s.breakpoints.next_id lines verified
+pub lines-told : (s : Session) (key : SourceKey) (lines : List ℕ) (o : Option (List Placement)) (verified : List Placement) (answers : List BreakpointBody) → o ≡ Some verified → are_too_many s.limits key lines s.breakpoints ≡ false → answers ≡ answers_to s.options s.breakpoints.next_id lines verified
     → (c : Change) × (lines_result s key lines o ≡ Ok c) × (c.body ≡ Some (set_breakpoints_body answers))
 lines-told s key lines o verified answers is few told = (lines_change s key lines verified, rw (is, few) refl, ap (λ (xs : List BreakpointBody). Some (set_breakpoints_body xs)) (sym told))
 

@@ -22,6 +22,7 @@ use Rattle.dap_plan.specs.Handling.{adapter_capabilities, Change, ChangeResult, 
 use Rattle.dap_outbox.specs.Draft.{success}
 use Rattle.dap_plan.specs.Session.{Session}
 use Rattle.dap_plan.proofs.Outcomes.{IsBare}
+use Rattle.dap_debuggee.specs.declared.answers.Placement.{Placement}
 
 pub offers-none : (o : Option Command) → references_given_in o (Some (capabilities_data adapter_capabilities)) ≡ []
 offers-none o = none-in o (capabilities_data adapter_capabilities) refl refl refl refl
@@ -43,13 +44,13 @@ value-none o value more =
 
 -- ---- what is changed
 
-lines-made : (b : Bool) (s : Session) (key : SourceKey) (lines : List ℕ) (verified : List Bool) (c : Change) → (let due : ChangeResult = (if b then Err TooManyBreakpoints else Ok (lines_change s key lines verified)) in due) ≡ Ok c → IsBare (success c.body [])
+lines-made : (b : Bool) (s : Session) (key : SourceKey) (lines : List ℕ) (verified : List Placement) (c : Change) → (let due : ChangeResult = (if b then Err TooManyBreakpoints else Ok (lines_change s key lines verified)) in due) ≡ Ok c → IsBare (success c.body [])
 lines-made true s key lines verified c e = absurd (cc e)
 lines-made false s key lines verified c e =
     let same : lines_change s key lines verified ≡ c = cc in
-    subst (λ (x : Change). IsBare (success x.body [])) same (refl, λ r. breakpoints-none (command_of r) (answers_to s.breakpoints.next_id lines verified))
+    subst (λ (x : Change). IsBare (success x.body [])) same (refl, λ r. breakpoints-none (command_of r) (answers_to s.options s.breakpoints.next_id lines verified))
 
-pub lines-bare : (s : Session) (key : SourceKey) (lines : List ℕ) (o : Option (List Bool)) (c : Change) → lines_result s key lines o ≡ Ok c → IsBare (success c.body [])
+pub lines-bare : (s : Session) (key : SourceKey) (lines : List ℕ) (o : Option (List Placement)) (c : Change) → lines_result s key lines o ≡ Ok c → IsBare (success c.body [])
 lines-bare s key lines None c e = absurd (cc e)
 lines-bare s key lines (Some verified) c e = lines-made (are_too_many s.limits key lines s.breakpoints) s key lines verified c e
 

@@ -43,6 +43,7 @@ use Rattle.dap_plan.proofs.Moves.{StandFew, moves-grown, moves-set, moves-plain,
 use Rattle.dap_plan.proofs.OwnRequests.{asks_none, none-in, none-started}
 use Rattle.dap_plan.proofs.GivenBodies.{offers-none, bare-resume, lines-bare, value-bare}
 use Rattle.dap_plan.proofs.Outcomes.{IsBare, bare-failure, bare-success, IsOutcome, outcome, asks-nothing, AsksWell, each-asks-none, append-asks-none, references-plain, replied, plain-reply, plain-outcome, after_answering-outcome, each-bare, append-bare, is_refused, AreClean, each-clean, append-clean, IsRow, once-row, failed-row, failing-row, asking-row, either-row}
+use Rattle.dap_debuggee.specs.declared.answers.Placement.{Placement}
 
 -- ---- forms
 
@@ -236,13 +237,13 @@ change-stands view s (call.SetVariable asked) c e few =
     subst (λ (b : SetBreakpoints). StandFew s.limits b) (sym due.breakpoints) few
 change-stands view s _ c e few = absurd (cc e)
 
-lines-leave : (b : Bool) (s : Session) (key : SourceKey) (lines : List ℕ) (verified : List Bool) (c : Change) → (let due : ChangeResult = (if b then Err TooManyBreakpoints else Ok (lines_change s key lines verified)) in due) ≡ Ok c → LeavesState c.act
+lines-leave : (b : Bool) (s : Session) (key : SourceKey) (lines : List ℕ) (verified : List Placement) (c : Change) → (let due : ChangeResult = (if b then Err TooManyBreakpoints else Ok (lines_change s key lines verified)) in due) ≡ Ok c → LeavesState c.act
 lines-leave true s key lines verified c e = absurd (cc e)
 lines-leave false s key lines verified c e =
     let same : lines_change s key lines verified ≡ c = cc in
     subst (λ (x : Change). LeavesState x.act) same (λ before last. refl)
 
-lines-keep : (s : Session) (key : SourceKey) (lines : List ℕ) (o : Option (List Bool)) (c : Change) → lines_result s key lines o ≡ Ok c → LeavesState c.act
+lines-keep : (s : Session) (key : SourceKey) (lines : List ℕ) (o : Option (List Placement)) (c : Change) → lines_result s key lines o ≡ Ok c → LeavesState c.act
 lines-keep s key lines None c e = absurd (cc e)
 lines-keep s key lines (Some verified) c e = lines-leave (are_too_many s.limits key lines s.breakpoints) s key lines verified c e
 

@@ -41,6 +41,7 @@ use Rattle.dap_query.proofs.Interned.{interned-each, is-lt, no-lt, lt-of}
 use Rattle.dap_plan.proofs.Fewer.{middle-contained}
 use Rattle.dap_plan.proofs.Kept.{eqb-self, false-left, false-right, same-seq, contains-append, contains-filter}
 use Rattle.dap_plan.proofs.Cancels.{and-false}
+use Rattle.dap_debuggee.specs.declared.answers.Placement.{Placement}
 
 -- ---- numbers for the objects of an answer: which failure it is, by counting
 
@@ -213,12 +214,12 @@ fit-fails : (b : Bool) (s : Session) (r : Entry) (why : Option Explanation) (ask
 fit-fails true s r why asked c is = does-so (change_asked s r c) s r why _ (record { asks = is; answered = λ last. rw (eqb-self r.seq) tt })
 fit-fails false s r why asked c is = fails-so TooLarge s r why _
 
-lines-by : (b : Bool) (s : Session) (r : Entry) (why : Option Explanation) (key : SourceKey) (lines : List ℕ) (verified : List Bool)
+lines-by : (b : Bool) (s : Session) (r : Entry) (why : Option Explanation) (key : SourceKey) (lines : List ℕ) (verified : List Placement)
     → (let due : ChangeResult = (if b then Err TooManyBreakpoints else Ok (lines_change s key lines verified)) in Fails (served_first false b false false (is_long_change s r due)) (after_change s r why due) s r why (ChangesWell s r why (call.SetBreakpoints key lines) due))
 lines-by true s r why key lines verified = fails-so TooManyBreakpoints s r why _
 lines-by false s r why key lines verified = fit-fails (fits s r (lines_change s key lines verified).body) s r why (call.SetBreakpoints key lines) (lines_change s key lines verified) refl
 
-lines-fail : (s : Session) (r : Entry) (why : Option Explanation) (key : SourceKey) (lines : List ℕ) (o : Option (List Bool))
+lines-fail : (s : Session) (r : Entry) (why : Option Explanation) (key : SourceKey) (lines : List ℕ) (o : Option (List Placement))
     → Fails (served_first (is_none o) (are_too_many s.limits key lines s.breakpoints) false false (is_long_change s r (lines_result s key lines o))) (after_change s r why (lines_result s key lines o)) s r why (ChangesWell s r why (call.SetBreakpoints key lines) (lines_result s key lines o))
 lines-fail s r why key lines None = fails-so Debuggee s r why _
 lines-fail s r why key lines (Some verified) = lines-by (are_too_many s.limits key lines s.breakpoints) s r why key lines verified

@@ -32,7 +32,7 @@ use Rattle.dap_decision.specs.declared.effect.Effect.{Effect}
 use Rattle.dap_decision.specs.declared.effect.Effect.TheVariants as effect
 use Rattle.dap_query.specs.declared.options.Options.{Options}
 use Rattle.dap_plan.specs.declared.fault.AdapterFault.{AdapterFault}
-use Rattle.dap_query.specs.Bodies.{QueryResult, query_result}
+use Rattle.dap_query.specs.Bodies.{QueryResult, query_result, line_shown}
 use Rattle.dap_query.specs.Queries.{object_of, usual_options}
 use Rattle.dap_plan.specs.Breakpoints.{are_too_many}
 use Rattle.dap_tables.specs.Breakpoints.{SetBreakpoints, breakpoints_with}
@@ -43,6 +43,7 @@ use Rattle.dap_tables.specs.References.{without_references}
 use Rattle.dap_plan.specs.Session.{Session, oldest, query_of}
 use Rattle.dap_tables.specs.Outstanding.{parked_ones, unparked_ones}
 use Rattle.dap_decision.specs.Table.{effect_in}
+use Rattle.dap_debuggee.specs.declared.answers.Placement.{Placement}
 
 -- ---- initialize
 
@@ -241,21 +242,25 @@ after_change s r why (Ok c) = if fits s r c.body then change_asked s r c else at
 abbrev pub lines_asked : Options → List ℕ → List ℕ
 lines_asked options lines = if options.lines_start_at_1 then lines else map (λ n. n + 1) lines
 
--- an answer to each line, with ids from the first on
-abbrev pub answers_to : ℕ → List ℕ → List Bool → List BreakpointBody
-answers_to first lines verified = map (λ p. record { id = p.0; line = p.1.0; verified = p.1.1 }) (zip (range_with_len first (length lines)) (zip lines verified))
+-- a breakpoint as it is answered, at the line where it is, as the client counts
+abbrev pub protocol_breakpoint : Options → ℕ → Placement → BreakpointBody
+protocol_breakpoint options id p = record { id = id; line = line_shown options p.line; verified = p.verified; message = p.message; more = p.more }
 
-abbrev pub lines_change : Session → SourceKey → List ℕ → List Bool → Change
-lines_change s key lines verified = record {
-  body = Some (set_breakpoints_body (answers_to s.breakpoints.next_id lines verified));
+-- an answer to each line, with ids from the first on
+abbrev pub answers_to : Options → ℕ → List ℕ → List Placement → List BreakpointBody
+answers_to options first lines placed = map (λ p. protocol_breakpoint options p.0 p.1) (zip (range_with_len first (length lines)) placed)
+
+abbrev pub lines_change : Session → SourceKey → List ℕ → List Placement → Change
+lines_change s key lines placed = record {
+  body = Some (set_breakpoints_body (answers_to s.options s.breakpoints.next_id lines placed));
   act = to_set_breakpoints key (lines_asked s.options lines);
   breakpoints = breakpoints_with key (lines_asked s.options lines) s.breakpoints;
 }
 
 -- by what the debuggee tells of the lines
-abbrev pub lines_result : Session → SourceKey → List ℕ → Option (List Bool) → ChangeResult
+abbrev pub lines_result : Session → SourceKey → List ℕ → Option (List Placement) → ChangeResult
 lines_result s key lines None = Err Debuggee
-lines_result s key lines (Some verified) = if are_too_many s.limits key lines s.breakpoints then Err TooManyBreakpoints else Ok (lines_change s key lines verified)
+lines_result s key lines (Some placed) = if are_too_many s.limits key lines s.breakpoints then Err TooManyBreakpoints else Ok (lines_change s key lines placed)
 
 -- ---- a value that is set
 

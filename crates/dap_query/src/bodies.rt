@@ -6,7 +6,7 @@ ghost use Rattle.dap_debuggee.specs.declared.answers.Scope.{Scope as ScopeWord};
 ghost use Rattle.dap_debuggee.specs.declared.answers.Variable.{Variable as VariableWord};
 ghost use Rattle.dap_tables.specs.References.{frame_of, holder_of};
 ghost use Rattle.dap_debuggee.specs.Shown.{window};
-ghost use Rattle.dap_query.specs.Bodies.{protocol_thread, numbered_source, reference_of, protocol_sources, source_of_frame, optional_source_of_frame, line_shown, column_shown, frame_with, protocol_frame, protocol_scope, protocol_variable, with_numbers};
+ghost use Rattle.dap_query.specs.Bodies.{protocol_thread, numbered_source, reference_of, protocol_sources, source_of_frame, optional_source_of_frame, column_shown, frame_with, protocol_frame, protocol_scope, protocol_variable, with_numbers};
 
 use crate::options::Options;
 use dap_body::StackFrame;
@@ -236,17 +236,6 @@ fn sources_of_frames<D: Debuggee>(
     Ok(told)
 }
 
-/// A line as the client counts it.
-fn line_shown(options: Options, line: u32) -> u32
-    ensures { result ≡ line_shown options line }
-{
-    if options.lines_start_at_1 {
-        line
-    } else {
-        line.saturating_sub(1)
-    }
-}
-
 fn column_shown(options: Options) -> u32
     ensures { result ≡ column_shown options }
 {
@@ -282,7 +271,7 @@ fn frame_with(
             id,
             name,
             source: Some(source),
-            line: line_shown(options, line),
+            line: options.line_shown(line),
             column: column_shown(options),
             more,
         },

@@ -5,7 +5,7 @@ use Rattle.std.proofs.lemmas.List.{length-map}
 use Rattle.std.specs.List.{slice_get}
 use Rattle.dap_command.specs.declared.source_key.SourceKey.{SourceKey}
 use Rattle.dap_debuggee.specs.Laws.{Stays}
-use Rattle.dap_recording.specs.Sources.{source_shown, text_at, has_source_line, lines_verified}
+use Rattle.dap_recording.specs.Sources.{source_shown, text_at, has_source_line, lines_verified, placed_in}
 use Rattle.dap_recording.specs.declared.recording.RecordedSource.{RecordedSource}
 
 place_stays : {A : Type 0} (xs ys : List A) (i : ℕ) → Stays (slice_get xs i) (slice_get (xs ++ ys) i)
@@ -26,4 +26,4 @@ pub texts-stay : (sources more : List RecordedSource) (i : ℕ) → Stays (text_
 texts-stay sources more i = map_stays (λ (source : RecordedSource). source.text) (slice_get sources i) (slice_get (sources ++ more) i) (place_stays sources more i)
 
 pub each-verified : (sources : List RecordedSource) (key : SourceKey) (lines : List ℕ) → length (lines_verified sources key lines) ≡ length lines
-each-verified sources key lines = length-map lines (has_source_line sources key)
+each-verified sources key lines = length-map lines (placed_in sources key)

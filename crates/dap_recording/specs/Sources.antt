@@ -5,6 +5,8 @@ use Rattle.dap_command.specs.declared.source_key.SourceKey.{SourceKey}
 use Rattle.dap_command.specs.declared.source_key.SourceKey.TheVariants.{Path, Reference}
 use Rattle.dap_debuggee.specs.declared.answers.Source.{Source}
 use Rattle.dap_recording.specs.declared.recording.RecordedSource.{RecordedSource}
+use Rattle.dap_debuggee.specs.Shown.{as_asked}
+use Rattle.dap_debuggee.specs.declared.answers.Placement.{Placement}
 
 abbrev pub source_shown : RecordedSource → Source
 source_shown source = record { name = source.name; path = source.path; on_disk = source.on_disk; more = source.more }
@@ -28,6 +30,9 @@ has_source_line sources (Path path) line = list_any (path_has_line path line) so
 has_source_line sources (Reference zero) line = false
 has_source_line sources (Reference (suc n)) line = unwrap_or (option_map (source_has_line line) (slice_get sources n)) false
 
--- which of the lines a source has
-abbrev pub lines_verified : List RecordedSource → SourceKey → List ℕ → List Bool
-lines_verified sources key lines = map (has_source_line sources key) lines
+-- a breakpoint is where it was asked for, and can stop where a source has the line
+abbrev pub placed_in : List RecordedSource → SourceKey → ℕ → Placement
+placed_in sources key line = as_asked (has_source_line sources key line) line
+
+abbrev pub lines_verified : List RecordedSource → SourceKey → List ℕ → List Placement
+lines_verified sources key lines = map (placed_in sources key) lines

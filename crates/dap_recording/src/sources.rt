@@ -1,13 +1,14 @@
 //! The sources of a debuggee: the name, the path and the text of each, and how many lines there are under a path.
 ghost use Rattle.std.specs.Prelude.{◌≡◌, ◌&&◌, nat_le, ◌++◌, IfOk, OnOk, map, option_map};
 ghost use Rattle.dap_recording.specs.Sources.{source_shown};
+ghost use Rattle.dap_debuggee.specs.Shown.{as_asked};
 
 use crate::numbers::MAX_SOURCES;
 use crate::paths;
 use crate::paths::Paths;
 use crate::recording::RecordedSource;
 use dap_command::SourceKey;
-use dap_debuggee::{DebuggeeFault, Source};
+use dap_debuggee::{DebuggeeFault, Placement, Source};
 use dap_json::Text;
 use std::alloc::{AllocError, Global};
 use std::marker::Model;
@@ -161,7 +162,7 @@ impl Sources {
         alloc: Global,
         source: &SourceKey,
         lines: &[u32],
-    ) -> Result<Vec<bool>, AllocError>
+    ) -> Result<Vec<Placement>, AllocError>
         ensures { IfOk result (λ v. v.items ≡ lines_verified self.now source.now lines.now) }
     {
         let most = self.lines_of(source);
@@ -220,12 +221,13 @@ fn shown(alloc: Global, sources: &[RecordedSource]) -> Result<Vec<Source>, Alloc
     Ok(shown)
 }
 
-fn verified(alloc: Global, most: u64, lines: &[u32]) -> Result<Vec<bool>, AllocError>
-    ensures { IfOk result (λ answers. answers.items ≡ map (λ line. nat_le 1 line && nat_le line most) lines.now) }
+fn verified(alloc: Global, most: u64, lines: &[u32]) -> Result<Vec<Placement>, AllocError>
+    ensures { IfOk result (λ answers. answers.items ≡ map (λ line. as_asked (nat_le 1 line && nat_le line most) line) lines.now) }
 {
     let mut answers = Vec::new(alloc);
     for line in lines {
-        answers.push(1 <= *line && *line as u64 <= most)?;
+        let has_line = 1 <= *line && *line as u64 <= most;
+        answers.push(Placement::as_asked(*line, has_line))?;
     }
     Ok(answers)
 }

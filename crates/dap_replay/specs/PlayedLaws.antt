@@ -21,6 +21,7 @@ use Rattle.dap_debuggee.specs.declared.answers.Category.TheVariants.{Stdout}
 use Rattle.dap_debuggee.specs.declared.answers.Happening.{Happening}
 use Rattle.dap_debuggee.specs.declared.answers.Happening.TheVariants as happening
 use Rattle.dap_tables.specs.SourceMapLaws.{set-of-put}
+use Rattle.dap_recording.specs.Sources.{lines_verified}
 
 -- ---- an act, a row for each answer
 
@@ -396,7 +397,7 @@ keeps_answers-played v w a r f keeps = record {
   evaluate = λ frame text. ap (λ (p : Played). (shown_of p).evaluate frame text) f.view ∙ values_row v _ a r (row v w a r f) keeps frame text;
   assigned = λ holder name text. ap (λ (p : Played). (shown_of p).assigned holder name text) f.view ∙ assigned_row v _ a r (row v w a r f) keeps holder name text;
   sources = same_sources-played v w a r f;
-  verify = λ source lines. ap (λ r. Some (map (has_source_line r.sources source) lines)) (ap (λ (p : Played). p.recording) f.view ∙ recording_row v _ a r (row v w a r f));
+  verify = λ source lines. ap (λ r. Some (lines_verified r.sources source lines)) (ap (λ (p : Played). p.recording) f.view ∙ recording_row v _ a r (row v w a r f));
 }
 
 -- ---- lines

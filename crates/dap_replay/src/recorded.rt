@@ -11,7 +11,7 @@ use crate::set_lines::SetLines;
 use dap_command::SourceKey;
 use dap_debuggee::{
     Asked, Assigned, Debuggee, DebuggeeFault, Evaluation, Explanation, Frame, Happening, How,
-    RefusedQuery, Scope, Source, State, Thread, Variable,
+    Placement, RefusedQuery, Scope, Source, State, Thread, Variable,
 };
 use dap_json::Text;
 use dap_recording::Recording;
@@ -393,7 +393,7 @@ impl Debuggee for Recorded {
         alloc: Global,
         source: &SourceKey,
         lines: &[u32],
-    ) -> Result<Vec<bool>, DebuggeeFault> {
+    ) -> Result<Vec<Placement>, DebuggeeFault> {
         Ok(self.recording.sources.verify(alloc, source, lines)?)
     }
 

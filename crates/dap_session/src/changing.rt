@@ -10,7 +10,7 @@ ghost use Rattle.dap_tables.specs.Breakpoints.{max_id, breakpoints_with};
 ghost use Rattle.dap_debuggee.specs.Shown.{to_set_breakpoints, to_assign, done};
 ghost use Rattle.dap_query.specs.Queries.{object_of};
 ghost use Rattle.dap_plan.specs.Breakpoints.{are_too_many};
-ghost use Rattle.dap_plan.specs.Handling.{after_change, answers_to, change_reason, change_result, lines_asked, lines_result, value_result};
+ghost use Rattle.dap_plan.specs.Handling.{after_change, answers_to, protocol_breakpoint, change_reason, change_result, lines_asked, lines_result, value_result};
 ghost use Rattle.dap_plan.specs.Plan.{messages_due};
 ghost use Rattle.dap_plan.specs.SessionState.{Carries, IsRefusedFor, IsUnasked};
 ghost use Rattle.dap_plan.specs.Changing.{AreLines, CanChange, IsChange, IsChangeBody, IsMeasured, IsToFail, Changes, lines_given};
@@ -19,10 +19,10 @@ use crate::session::Session;
 use dap_body::{Body, Breakpoint, Failure};
 use dap_call::{Call, SetVariable};
 use dap_command::SourceKey;
-use dap_debuggee::{Assigned, Debuggee};
+use dap_debuggee::{Assigned, Debuggee, Placement};
 use dap_outbox::Outbox;
 use dap_plan::AdapterFault;
-use dap_query::NoAnswer;
+use dap_query::{NoAnswer, Options};
 use dap_tables::{BpFault, Entry};
 use std::alloc::{AllocError, Global};
 
@@ -44,20 +44,40 @@ fn raised(alloc: Global, lines: &[u32]) -> Result<Vec<u32>, AllocError>
     lines.iter().map(|line| *line + 1).collect(alloc)
 }
 
+/// A breakpoint as it is answered, at the line where it is.
+fn protocol_breakpoint(options: Options, id: u64, placed: Placement) -> Breakpoint
+    ensures { result ≡ protocol_breakpoint options id placed }
+{
+    let Placement {
+        verified,
+        line,
+        message,
+        more,
+    } = placed;
+    Breakpoint {
+        id,
+        line: options.line_shown(line),
+        verified,
+        message,
+        more,
+    }
+}
+
 /// An answer to each line that was asked for, with ids from the first on.
 fn answers_to(
     alloc: Global,
+    options: Options,
     first: u64,
     lines: &[u32],
-    verified: Vec<bool>,
+    placed: Vec<Placement>,
 ) -> Result<Vec<Breakpoint>, AllocError>
     requires { first + length lines.now ≤ max_id + 1 }
-    ensures { IfOk result (λ told. told.items ≡ answers_to first lines.now verified.items) }
+    ensures { IfOk result (λ told. told.items ≡ answers_to options first lines.now placed.items) }
 {
     let past = first + lines.len() as u64;
     (first..past)
-        .zip(lines.iter().copied().zip(verified))
-        .map(|(id, (line, verified))| Breakpoint { id, line, verified })
+        .zip(placed)
+        .map(|(id, placed)| protocol_breakpoint(options, id, placed))
         .collect(alloc)
 }
 
@@ -82,11 +102,12 @@ impl<D: Debuggee + Drop> Session<D> {
         requires { asked.now ≡ lines_asked self.now.session.options lines.now }
         ensures { IsChangeBody result (lines_result self.now.session source.now lines.now ((D.shown self.now.debuggee).verify source.now asked.now)) }
     {
-        let verified = self.debuggee.verify(alloc, source, asked)?;
+        let placed = self.debuggee.verify(alloc, source, asked)?;
         if self.are_too_many(source, lines) {
             return Err(NoAnswer::Fails(Failure::TooManyBreakpoints));
         }
-        let breakpoints = answers_to(alloc, self.breakpoints.next_id(), lines, verified)?;
+        let (options, first) = (self.options(), self.breakpoints.next_id());
+        let breakpoints = answers_to(alloc, options, first, lines, placed)?;
         Ok(Body::SetBreakpoints { breakpoints })
     }
 

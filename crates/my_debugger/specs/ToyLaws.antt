@@ -8,7 +8,7 @@ use Rattle.dap_debuggee.specs.Laws.{lines_after, keeps_answers, keeps_frames, Co
 use Rattle.dap_debuggee.specs.StayLaws.{frames-stay}
 use Rattle.dap_tables.specs.SourceMap.{OfSource, set_of}
 use Rattle.dap_tables.specs.SourceMapLaws.{set-of-put}
-use Rattle.my_debugger.specs.ToyShown.{ToyState, shown_toy, threads_in, frames_in, scopes_in, children_in, evaluation_in, has_line}
+use Rattle.my_debugger.specs.ToyShown.{ToyState, shown_toy, threads_in, frames_in, scopes_in, children_in, evaluation_in, has_line, placed_in}
 use Rattle.my_debugger.specs.ToyActs.{FollowsToy, set_after}
 
 -- ---- those that a step says itself
@@ -86,7 +86,7 @@ pub no_threads-toy : NoThreads shown_toy
 no_threads-toy v = (λ is. ap threads_in is, λ is. ap threads_in is)
 
 pub verifies_each-toy : VerifiesEach shown_toy
-verifies_each-toy v source lines answers is = sym (ap (λ o. length (unwrap_or o [])) is) ∙ length-map lines (has_line source)
+verifies_each-toy v source lines answers is = sym (ap (λ o. length (unwrap_or o [])) is) ∙ length-map lines (placed_in source)
 
 -- ---- no value is set
 

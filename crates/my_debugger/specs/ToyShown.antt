@@ -8,7 +8,7 @@ use Rattle.dap_command.specs.declared.source_key.SourceKey.{SourceKey}
 use Rattle.dap_command.specs.declared.source_key.SourceKey.TheVariants.{Path}
 use Rattle.serde_json.specs.Data.{string}
 use Rattle.dap_json.specs.declared.more.Member.{Member}
-use Rattle.dap_debuggee.specs.Shown.{Shown, Last, Query, for_value}
+use Rattle.dap_debuggee.specs.Shown.{Shown, Last, Query, for_value, as_asked}
 use Rattle.dap_debuggee.specs.declared.answers.State.{State}
 use Rattle.dap_debuggee.specs.declared.answers.State.TheVariants.{NotStarted, Running, Stopped, Gone}
 use Rattle.dap_debuggee.specs.declared.answers.Thread.{Thread}
@@ -22,6 +22,7 @@ use Rattle.dap_tables.specs.SourceMap.{OfSource, set_of}
 use Rattle.my_debugger.specs.declared.call.Call.{Call}
 use Rattle.my_debugger.specs.declared.call.Local.{Local}
 use Rattle.my_debugger.specs.declared.program.TheConstants.{NAME, NO_VARIABLE, PATH, TEXT}
+use Rattle.dap_debuggee.specs.declared.answers.Placement.{Placement}
 
 -- ---- the view
 
@@ -120,6 +121,10 @@ the_source = record { name = NAME.now; path = Some PATH.now; on_disk = false; mo
 abbrev pub has_line : SourceKey → ℕ → Bool
 has_line source line = is_source source (Path PATH.now) && (nat_le 1 line && nat_le line 12)
 
+-- a breakpoint is where it was asked for
+abbrev pub placed_in : SourceKey → ℕ → Placement
+placed_in source line = as_asked (has_line source line) line
+
 abbrev pub shown_toy : ToyState → Shown
 shown_toy v = record {
   state = v.state;
@@ -134,6 +139,6 @@ shown_toy v = record {
   assigned = λ holder name text. None;
   sources = the_source ∷ [];
   content = λ index. if nat_eq index 0 then Some TEXT.now else None;
-  verify = λ source lines. Some (map (has_line source) lines);
+  verify = λ source lines. Some (map (placed_in source) lines);
   why = why_refused;
 }

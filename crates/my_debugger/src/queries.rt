@@ -1,12 +1,12 @@
 //! What is shown of a program: its calls as frames and variables, and its source.
 ghost use Rattle.std.specs.Prelude.{◌≡◌, [], ◌∷◌, IfOk, map, option_map};
 ghost use Rattle.dap_debuggee.specs.Shown.{window as window_of};
-ghost use Rattle.my_debugger.specs.ToyShown.{of_its_type, main_thread, line_of, frames_from, scope_of, local_named, variable_of, the_source, has_line};
+ghost use Rattle.my_debugger.specs.ToyShown.{of_its_type, main_thread, line_of, frames_from, scope_of, local_named, variable_of, the_source, has_line, placed_in};
 
 use crate::call::{Call, Local};
 use crate::program::{NAME, PATH};
 use dap_command::SourceKey;
-use dap_debuggee::{Frame, Scope, Source, Thread, Variable};
+use dap_debuggee::{Frame, Placement, Scope, Source, Thread, Variable};
 use dap_json::{More, Text};
 use std::alloc::{AllocError, Global};
 
@@ -128,17 +128,17 @@ fn has_line(source: &SourceKey, line: u32) -> bool
     }
 }
 
-/// Of each line, whether the source has it.
+/// Of each line, a breakpoint there, which can stop where the source has it.
 pub(crate) fn verified(
     alloc: Global,
     source: &SourceKey,
     lines: &[u32],
-) -> Result<Vec<bool>, AllocError>
-    ensures { IfOk result (λ answers. answers.items ≡ map (has_line source.now) lines.now) }
+) -> Result<Vec<Placement>, AllocError>
+    ensures { IfOk result (λ answers. answers.items ≡ map (placed_in source.now) lines.now) }
 {
     let mut answers = Vec::with_capacity(alloc, lines.len())?;
     for line in lines {
-        answers.push(has_line(source, *line))?;
+        answers.push(Placement::as_asked(*line, has_line(source, *line)))?;
     }
     Ok(answers)
 }

@@ -7,7 +7,7 @@ use crate::{call, queries};
 use dap_command::SourceKey;
 use dap_debuggee::{
     Asked, Assigned, Debuggee, DebuggeeFault, Evaluation, Explanation, Frame, Happening, How,
-    RefusedQuery, Scope, Source, State, Thread, Variable,
+    Placement, RefusedQuery, Scope, Source, State, Thread, Variable,
 };
 use dap_json::Text;
 use dap_tables::SourceMap;
@@ -400,7 +400,7 @@ impl Debuggee for Toy {
         alloc: Global,
         source: &SourceKey,
         lines: &[u32],
-    ) -> Result<Vec<bool>, DebuggeeFault> {
+    ) -> Result<Vec<Placement>, DebuggeeFault> {
         Ok(queries::verified(alloc, source, lines)?)
     }
 

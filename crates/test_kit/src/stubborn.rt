@@ -6,7 +6,7 @@ ghost use Rattle.test_kit.specs.Stubborn.{long_value};
 use dap_command::SourceKey;
 use dap_debuggee::{
     Assigned, Debuggee, DebuggeeFault, Evaluation, Explanation, Frame, Happening, How,
-    RefusedQuery, Scope, Source, Thread, Variable,
+    Placement, RefusedQuery, Scope, Source, Thread, Variable,
 };
 use dap_json::Text;
 use dap_replay::Recorded;
@@ -207,7 +207,7 @@ impl Debuggee for Stubborn {
         alloc: Global,
         source: &SourceKey,
         lines: &[u32],
-    ) -> Result<Vec<bool>, DebuggeeFault> {
+    ) -> Result<Vec<Placement>, DebuggeeFault> {
         self.inner.verify(alloc, source, lines)
     }
 
