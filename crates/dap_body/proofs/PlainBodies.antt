@@ -36,6 +36,7 @@ use Rattle.dap_body.specs.Row.{Field, Row, Value, text, whole, integer, flag, tr
 use Rattle.dap_body.specs.PlainBodies.{IsPlain, ResponseBodiesArePlain, FailureBodiesArePlain, ExplainedBodiesArePlain, EventBodiesArePlain}
 use Rattle.dap_body.specs.declared.response.Thread.{Thread}
 use Rattle.dap_body.specs.declared.response.Source.{Source}
+use Rattle.dap_body.specs.declared.response.Breakpoint.{Breakpoint}
 use Rattle.dap_body.specs.declared.response.Scope.{Scope}
 use Rattle.dap_body.specs.declared.response.Variable.{Variable}
 use Rattle.dap_body.specs.declared.response.StackFrame.{StackFrame}

@@ -1,5 +1,5 @@
 -- Worked examples of what a host's debuggee drops, answers and shows, each shown by computation.
-use Rattle.std.proofs.Common.{◌≡◌, List, ℕ, [], ◌∷◌, codes, replicate, Bool, true, false, Option, None, Some, pos, refl}
+use Rattle.std.proofs.Common.{◌≡◌, List, ℕ, [], ◌∷◌, codes, replicate, Bool, true, false, Option, None, Some, pos, refl, map, option_map}
 use Rattle.dap_json.specs.declared.more.Member.{Member}
 use Rattle.dap_command.specs.declared.source_key.SourceKey.TheVariants.{Path, Reference}
 use Rattle.dap_debuggee.specs.Shown.{to_start, to_resume, to_pause, to_poll, to_set_breakpoints, to_assign, to_end, done, refused, happened}
@@ -26,6 +26,7 @@ use Rattle.dap_live.specs.declared.mail.HostAct.TheVariants as act
 use Rattle.dap_live.specs.Hearing.{with_told}
 use Rattle.dap_live.specs.MailState.{MailState, no_mail, with_coming, with_dropped, with_act, with_end}
 use Rattle.dap_live.specs.LiveLaws.{reply_to, here_after, learned_after, sources_after, mail_after}
+use Rattle.dap_debuggee.specs.declared.answers.Placement.{Placement}
 
 abbrev wrote : List ℕ → Happening
 wrote text = happening.Output Stdout text []
@@ -216,7 +217,10 @@ too_wide = (refl, refl, refl)
 abbrev with_more : LiveState
 with_more = fresh_live (source ∷ record { name = codes "b"; path = Some (codes "/b"); text = codes "y\nz"; on_disk = true; lines = 2; more = [] } ∷ [])
 
-places : ((shown_live with_more).content 1 ≡ Some (codes "y\nz")) × ((shown_live with_more).content 2 ≡ None) × ((shown_live with_more).verify (Reference 2) (2 ∷ 3 ∷ []) ≡ Some (true ∷ false ∷ [])) × ((shown_live with_more).verify (Path (codes "/b")) (2 ∷ []) ≡ Some (true ∷ [])) × ((shown_live (fresh_live (source ∷ []))).verify (Reference 2) (1 ∷ []) ≡ Some (false ∷ []))
+abbrev verdicts : Option (List Placement) → Option (List Bool)
+verdicts = option_map (map (λ (p : Placement). p.verified))
+
+places : ((shown_live with_more).content 1 ≡ Some (codes "y\nz")) × ((shown_live with_more).content 2 ≡ None) × (verdicts ((shown_live with_more).verify (Reference 2) (2 ∷ 3 ∷ [])) ≡ Some (true ∷ false ∷ [])) × (verdicts ((shown_live with_more).verify (Path (codes "/b")) (2 ∷ [])) ≡ Some (true ∷ [])) × (verdicts ((shown_live (fresh_live (source ∷ []))).verify (Reference 2) (1 ∷ [])) ≡ Some (false ∷ []))
 places = (refl, refl, refl, refl, refl)
 
 sources_next : (sources_after to_poll (at Gone (Some (coming.Sources (source ∷ [])))) ≡ source ∷ source ∷ []) × (sources_after to_poll (at Stopped (Some seven)) ≡ source ∷ [])

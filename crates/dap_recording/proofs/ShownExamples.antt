@@ -1,10 +1,12 @@
 -- Worked examples of what sources and one moment show, each shown by computation.
-use Rattle.std.proofs.Common.{◌≡◌, ℕ, List, [], ◌∷◌, codes, true, false, Some, None, pos, refl}
+use Rattle.std.proofs.Common.{◌≡◌, ℕ, List, [], ◌∷◌, codes, true, false, Some, None, pos, refl, Bool, map}
 use Rattle.dap_command.specs.declared.source_key.SourceKey.TheVariants.{Path, Reference}
 use Rattle.dap_recording.specs.Recording.{is_moment}
 use Rattle.dap_recording.specs.Snapshot.{MomentAlone, frames_in, scopes_alone, children_alone, is_among, is_in}
 use Rattle.dap_recording.specs.Sources.{text_at, lines_verified}
 use Rattle.dap_recording.specs.declared.recording.RecordedSource.{RecordedSource}
+use Rattle.dap_debuggee.specs.Shown.{as_asked}
+use Rattle.dap_debuggee.specs.declared.answers.Placement.{Placement}
 
 -- ---- two sources of one path
 
@@ -17,8 +19,14 @@ two = source (codes "x\ny") 2 ∷ source (codes "z") 1 ∷ []
 texts : (text_at two 0 ≡ Some (codes "x\ny")) × (text_at two 1 ≡ Some (codes "z")) × (text_at two 2 ≡ None)
 texts = (refl, refl, refl)
 
+abbrev is_verified : Placement → Bool
+is_verified p = p.verified
+
+as_they_were_asked : lines_verified two (Path (codes "/a")) (2 ∷ 3 ∷ []) ≡ as_asked true 2 ∷ as_asked false 3 ∷ []
+as_they_were_asked = refl
+
 -- a path has the lines of its longest source
-lines : (lines_verified two (Path (codes "/a")) (0 ∷ 1 ∷ 2 ∷ 3 ∷ []) ≡ false ∷ true ∷ true ∷ false ∷ []) × (lines_verified two (Path (codes "/b")) (1 ∷ []) ≡ false ∷ []) × (lines_verified two (Reference 2) (1 ∷ 2 ∷ []) ≡ true ∷ false ∷ []) × (lines_verified two (Reference 0) (1 ∷ []) ≡ false ∷ []) × (lines_verified two (Reference 3) (1 ∷ []) ≡ false ∷ [])
+lines : (map is_verified (lines_verified two (Path (codes "/a")) (0 ∷ 1 ∷ 2 ∷ 3 ∷ [])) ≡ false ∷ true ∷ true ∷ false ∷ []) × (map is_verified (lines_verified two (Path (codes "/b")) (1 ∷ [])) ≡ false ∷ []) × (map is_verified (lines_verified two (Reference 2) (1 ∷ 2 ∷ [])) ≡ true ∷ false ∷ []) × (map is_verified (lines_verified two (Reference 0) (1 ∷ [])) ≡ false ∷ []) × (map is_verified (lines_verified two (Reference 3) (1 ∷ [])) ≡ false ∷ [])
 lines = (refl, refl, refl, refl, refl)
 
 -- ---- a moment of one frame, with a scope that came without its variables and one that has x

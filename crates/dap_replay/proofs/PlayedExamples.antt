@@ -1,5 +1,5 @@
 -- Worked examples of a recorded debuggee, act by act and query by query, each shown by computation.
-use Rattle.std.proofs.Common.{◌≡◌, Bool, List, ℕ, [], ◌∷◌, ◌++◌, codes, replicate, true, false, Some, None, pos, refl}
+use Rattle.std.proofs.Common.{◌≡◌, Bool, List, ℕ, [], ◌∷◌, ◌++◌, codes, replicate, true, false, Some, None, pos, refl, Option, map, option_map}
 use Rattle.std.specs.Option.{IsSome}
 use Rattle.dap_command.specs.declared.source_key.SourceKey.TheVariants.{Path, Reference}
 use Rattle.dap_recording.proofs.ReadingExamples.{three_moments_is_recording}
@@ -20,6 +20,7 @@ use Rattle.dap_debuggee.specs.declared.answers.Scope.{Scope}
 use Rattle.dap_debuggee.specs.declared.answers.Variable.{Variable}
 use Rattle.dap_recording.specs.declared.recording.Moment.{Moment}
 use Rattle.dap_recording.specs.declared.recording.RecordedSource.{RecordedSource}
+use Rattle.dap_debuggee.specs.declared.answers.Placement.{Placement}
 
 -- ---- histories
 
@@ -147,7 +148,10 @@ asked_for_what_it_holds = (refl, told.frames (pos 1) (main_frame ∷ []) 0 main_
 sources : ((shown_of fresh).sources ≡ record { name = codes "a.c"; path = Some (codes "/a.c"); on_disk = false; more = [] } ∷ []) × ((shown_of fresh).content 0 ≡ Some (codes "one\ntwo\nthree\n")) × ((shown_of fresh).content 1 ≡ None)
 sources = (refl, refl, refl)
 
-verified : ((shown_of fresh).verify (Path (codes "/a.c")) (3 ∷ 4 ∷ 0 ∷ 1 ∷ 4294967295 ∷ []) ≡ Some (true ∷ false ∷ false ∷ true ∷ false ∷ [])) × ((shown_of fresh).verify (Reference 1) (3 ∷ 4 ∷ []) ≡ Some (true ∷ false ∷ [])) × ((shown_of fresh).verify (Reference 2) (1 ∷ []) ≡ Some (false ∷ [])) × ((shown_of fresh).verify (Reference 0) (1 ∷ []) ≡ Some (false ∷ [])) × ((shown_of fresh).verify (Path (codes "a.c")) (1 ∷ []) ≡ Some (false ∷ [])) × ((shown_of fresh).verify (Reference 1) [] ≡ Some [])
+abbrev verdicts : Option (List Placement) → Option (List Bool)
+verdicts = option_map (map (λ (p : Placement). p.verified))
+
+verified : (verdicts ((shown_of fresh).verify (Path (codes "/a.c")) (3 ∷ 4 ∷ 0 ∷ 1 ∷ 4294967295 ∷ [])) ≡ Some (true ∷ false ∷ false ∷ true ∷ false ∷ [])) × (verdicts ((shown_of fresh).verify (Reference 1) (3 ∷ 4 ∷ [])) ≡ Some (true ∷ false ∷ [])) × (verdicts ((shown_of fresh).verify (Reference 2) (1 ∷ [])) ≡ Some (false ∷ [])) × (verdicts ((shown_of fresh).verify (Reference 0) (1 ∷ [])) ≡ Some (false ∷ [])) × (verdicts ((shown_of fresh).verify (Path (codes "a.c")) (1 ∷ [])) ≡ Some (false ∷ [])) × (verdicts ((shown_of fresh).verify (Reference 1) []) ≡ Some [])
 verified = (refl, refl, refl, refl, refl, refl)
 
 -- ---- pieces of output
@@ -280,5 +284,5 @@ abbrev one_path : Played
 one_path = fresh_played (record { exit = pos 0; sources = named 3 ∷ named 5 ∷ []; moments = three_moments.moments; scopes = []; variables = []; untold = [] })
 
 -- two sources of one path: by the path both count, by a number one
-path_of_two : ((shown_of one_path).verify (Path (codes "/a.c")) (3 ∷ 5 ∷ 6 ∷ []) ≡ Some (true ∷ true ∷ false ∷ [])) × ((shown_of one_path).verify (Reference 1) (3 ∷ 5 ∷ []) ≡ Some (true ∷ false ∷ [])) × ((shown_of one_path).verify (Reference 2) (3 ∷ 5 ∷ []) ≡ Some (true ∷ true ∷ []))
+path_of_two : (verdicts ((shown_of one_path).verify (Path (codes "/a.c")) (3 ∷ 5 ∷ 6 ∷ [])) ≡ Some (true ∷ true ∷ false ∷ [])) × (verdicts ((shown_of one_path).verify (Reference 1) (3 ∷ 5 ∷ [])) ≡ Some (true ∷ false ∷ [])) × (verdicts ((shown_of one_path).verify (Reference 2) (3 ∷ 5 ∷ [])) ≡ Some (true ∷ true ∷ []))
 path_of_two = (refl, refl, refl)

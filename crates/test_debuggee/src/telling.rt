@@ -2,7 +2,7 @@
 
 use crate::playing::{faulted, in_short, source};
 use dap_command::SourceKey;
-use dap_debuggee::{Debuggee, Evaluation, Frame, Scope, Source, Thread, Variable};
+use dap_debuggee::{Debuggee, Evaluation, Frame, Placement, Scope, Source, Thread, Variable};
 use dap_replay::Recorded;
 use std::alloc::Global;
 use std::fmt::Write;
@@ -150,9 +150,9 @@ fn add_lines<D: Debuggee>(
     }
 }
 
-fn add_verified(told: &mut String, answers: &[bool]) -> bool {
-    for is_verified in answers {
-        if told.push_str(if *is_verified { "y" } else { "n" }).is_err() {
+fn add_verified(told: &mut String, answers: &[Placement]) -> bool {
+    for placed in answers {
+        if told.push_str(if placed.verified { "y" } else { "n" }).is_err() {
             return false;
         }
     }

@@ -93,6 +93,8 @@ fn breakpoints_body(alloc: Global) -> Result<Value, AllocError> {
         id: 1,
         line: 2,
         verified: true,
+        message: None,
+        more: More::none(),
     };
     body_set_breakpoints(alloc, one(alloc, breakpoint)?)
 }

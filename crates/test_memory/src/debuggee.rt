@@ -2,7 +2,7 @@
 
 use crate::outcomes::{both, judge, refused};
 use dap_command::SourceKey;
-use dap_debuggee::{Debuggee, DebuggeeFault, Happening};
+use dap_debuggee::{Debuggee, DebuggeeFault, Happening, Placement};
 use dap_recording::RecordingFault;
 use dap_replay::Recorded;
 use std::alloc::Global;
@@ -122,9 +122,19 @@ fn tells_content(alloc: Global, debuggee: &Recorded) -> Option<bool> {
     }
 }
 
+/// Whether these are two breakpoints where they were asked for, of which the first can stop.
+fn are_placed(answers: &[Placement]) -> bool {
+    match answers {
+        [first, second] => {
+            first.verified && first.line == 2 && !second.verified && second.line == 3
+        }
+        _ => false,
+    }
+}
+
 fn tells_lines(alloc: Global, debuggee: &Recorded) -> Option<bool> {
     match debuggee.verify(alloc, &SourceKey::Reference(1), &[2, 3]) {
-        Ok(answers) => Some(answers.as_slice() == [true, false].as_slice()),
+        Ok(answers) => Some(are_placed(&answers)),
         Err(fault) => unanswered(fault),
     }
 }

@@ -107,7 +107,7 @@ fn standing(
     }
     match debuggee.verify(alloc, source, lines) {
         Ok(told) if told.len() == lines.len() => {
-            Some(told.iter().filter(|stands| **stands).count())
+            Some(told.iter().filter(|placed| placed.verified).count())
         }
         _ => None,
     }

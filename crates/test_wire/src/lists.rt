@@ -20,6 +20,8 @@ pub(crate) fn breakpoints(
             id: *id,
             line: *line,
             verified: *verified,
+            message: None,
+            more: More::none(),
         })?;
     }
     Ok(breakpoints)
