@@ -7,7 +7,9 @@ use Rattle.dap_json.specs.More.{object_with, are_more}
 use Rattle.dap_json.specs.declared.more.Member.{Member}
 use Rattle.dap_body.specs.Beside.{beside, fit_members}
 use Rattle.dap_body.specs.Row.{Row, is_in_order, object_of, text, whole}
-use Rattle.dap_body.specs.ResponseBody.{thread_fields, source_fields, stack_frame_fields, scope_fields, variable_fields, evaluate_fields, evaluate_body, set_variable_fields, set_variable_body}
+use Rattle.dap_body.specs.ResponseBody.{thread_fields, source_fields, stack_frame_fields, scope_fields, variable_fields, initialize_fields, initialize_body, evaluate_fields, evaluate_body, set_variable_fields, set_variable_body}
+use Rattle.dap_command.specs.Capabilities.{capabilities_data}
+use Rattle.dap_command.specs.declared.capabilities.Capabilities.{Capabilities}
 use Rattle.dap_body.specs.declared.response.Scope.{Scope}
 use Rattle.dap_body.specs.declared.response.Source.{Source}
 use Rattle.dap_body.specs.declared.response.StackFrame.{StackFrame}
@@ -41,5 +43,7 @@ pub record OwnFieldsAreInOrder : Type 0 where
   pub variable : (v : Variable) → is_in_order (variable_fields v) ≡ true
   pub evaluate : (result : List ℕ) (reference : ℕ) → is_in_order (evaluate_fields result reference) ≡ true
   pub set_variable : (value : List ℕ) → is_in_order (set_variable_fields value) ≡ true
+  pub initialize : (c : Capabilities) → is_in_order (initialize_fields c) ≡ true
+  pub initialize_alone : (c : Capabilities) → initialize_body c [] ≡ capabilities_data c
   pub evaluate_alone : (result : List ℕ) (reference : ℕ) → evaluate_body result reference [] ≡ object_of ((codes "result", text result) ∷ (codes "variablesReference", whole reference) ∷ [])
   pub set_variable_alone : (value : List ℕ) → set_variable_body value [] ≡ object_of ((codes "value", text value) ∷ [])

@@ -1,10 +1,12 @@
 //! Members that stand beside an object's own fields, each written at its place among them.
-ghost use Rattle.std.specs.Prelude.{◌≡◌, ◌∷◌, [], IfOk, OnOk};
+ghost use Rattle.std.specs.Prelude.{◌≡◌, ◌∷◌, [], None, IfOk, OnOk};
 ghost use Rattle.dap_json.specs.More.{object_with};
 ghost use Rattle.dap_json.specs.Sound.{IsSound};
 ghost use Rattle.dap_body.specs.Beside.{field_of, fit_members};
-ghost use Rattle.dap_body.specs.PrivateText.{wrote, wrote_among, HasNoFloats, PutsBefore};
+ghost use Rattle.dap_body.specs.PrivateText.{wrote, wrote_among, HasNoFloats, IsSoundField, PutsBefore, PutsNone};
+ghost use Rattle.dap_body.specs.Row.{whole_if_any};
 
+use crate::row::put_short_if_any;
 use dap_json::written::write_value;
 use dap_json::{Member, More};
 use json::Writer;
@@ -97,4 +99,21 @@ pub(crate) fn put_left(out: &mut Writer, members: &[Member]) -> Result<(), Alloc
         return Ok(());
     }
     put_all(out, members)
+}
+
+/// Writes those that come before a key at which nothing is written, and gives those that come behind it.
+pub(crate) fn put_none<'m>(
+    out: &mut Writer,
+    key: &str,
+    left: &'m [Member],
+) -> Result<&'m [Member], AllocError>
+    requires { HasNoFloats left.now }
+    ensures puts { IfOk result (λ later. PutsNone key.now left.now out.old.tokens later.now out.new.tokens) }
+    ensures sound { IsSoundField (key.now, whole_if_any None) }
+    ensures plain { IfOk result (λ later. HasNoFloats later.now) }
+    ensures before { out.new.before ≡ out.old.before }
+{
+    let left = put_before(out, key, left)?;
+    put_short_if_any(out, key, None)?;
+    Ok(left)
 }

@@ -9,6 +9,7 @@
 
 mod answering;
 pub mod laws;
+mod offers;
 
 pub use answering::{append_answer, append_event, append_failure, append_request};
 pub use dap_body::{
@@ -30,3 +31,4 @@ pub use dap_envelope::{
 };
 pub use dap_json::object_reader::Scratch;
 pub use dap_json::{List, Text, Tree};
+pub use offers::{body_of_offer, offer_fits};

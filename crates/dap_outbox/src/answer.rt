@@ -1,15 +1,12 @@
 //! How a request is answered, and what is told, before it is written.
 
 use dap_body::Failure;
-use dap_command::Capabilities;
 use dap_debuggee::Category;
 use dap_json::Text;
 
 /// A body of a fixed shape.
 #[derive(Clone, Copy, Debug)]
 pub enum Fixed {
-    /// What an adapter offers.
-    Initialize(Capabilities),
     /// All threads go on.
     Continue,
 }
