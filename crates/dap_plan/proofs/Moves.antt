@@ -101,11 +101,12 @@ moves-set s m l r b d =
 -- nothing but that all may die
 pub record IsPlain (s : Session) (m : Made) : Type 0 where
   pub constants_stay : constants m.after ≡ constants s
+  pub limits : m.after.limits ≡ s.limits
   pub references : m.after.references ≡ references_after s.references (references_end_if m.drops)
   pub breakpoints : m.after.breakpoints ≡ s.breakpoints
 
 pub is-plain : (s : Session) (m : Made) → constants m.after ≡ constants s → m.after.references ≡ references_after s.references (references_end_if m.drops) → m.after.breakpoints ≡ s.breakpoints → IsPlain s m
-is-plain s m l r b = record { constants_stay = l; references = r; breakpoints = b }
+is-plain s m l r b = record { constants_stay = l; limits = ap (λ (x : Settings × Offer). x.0) l; references = r; breakpoints = b }
 
 plain-if : (b : Bool) (s : Session) (m : Made) → m.drops ≡ b → constants m.after ≡ constants s → m.after.references ≡ references_after s.references (references_end_if b) → m.after.breakpoints ≡ s.breakpoints → Moves s m
 plain-if true s m d l r p = moves-without_references s m l r p d
