@@ -180,6 +180,9 @@ static void nothing_is_held(void) {
     CHECK(yt_adapter_name(&adapter, out, 1) == YT_NONE && yt_adapter_value(&adapter, out, 1) == YT_NONE);
     CHECK(yt_adapter_state(&adapter, &seen) == YT_NONE && yt_adapter_target(&adapter, 1, &target) == YT_NONE);
     yt_adapter_free(&adapter);
+    CHECK(yt_adapter_open_with(&adapter, &limits, BYTES(BASE), BYTES("{\"supportsStepBack\":false,\"supportsLogPoints\":true}")) == YT_OK);
+    CHECK(yt_adapter_open_with(&adapter, &limits, BYTES(BASE), BYTES("{\"supportsRestartFrame\":true}")) == YT_BAD_ARGUMENTS && !adapter.full);
+    CHECK(yt_adapter_open_with(&adapter, &limits, BYTES(BASE), BYTES("[]")) == YT_BAD_ARGUMENTS);
     CHECK(yt_adapter_open(&adapter, &limits, BYTES("{\"sources\":[{}]}")) == YT_BAD_RECORDING);
     CHECK(yt_adapter_open(&adapter, &limits, BYTES(RECORDING)) == YT_OK); /* what else it has is not looked at */
     CHECK(yt_adapter_open(&adapter, &limits, BYTES(BASE)) == YT_OK);

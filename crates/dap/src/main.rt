@@ -11,7 +11,7 @@ use clap::error::{Error, ErrorKind};
 use dap_adapter::ServeFault;
 use dap_channel::{Input, Pipe};
 use dap_frame::{End, Limits};
-use dap_host::{Host, host_channel};
+use dap_host::{FileFault as HostFault, Host, OffersFault, host_channel};
 use dap_recording::RecordingFault;
 use dap_replay::Recorded;
 use dap_tool::{
@@ -464,9 +464,50 @@ fn read_host(rt: &HostRuntime, matches: &ArgMatches<'_>, limits: Limits) -> Resu
                 name: name_of(matches, SOURCES),
                 bytes: &bytes,
             };
-            Err(tell_sources(rt, matches, file, fault))
+            match fault {
+                HostFault::Sources(fault) => Err(tell_sources(rt, matches, file, fault)),
+                HostFault::Offers(fault) => Err(tell_offers(rt, matches, file, fault)),
+            }
         }
     }
+}
+
+/// The line that explains why what a file offers is refused.
+fn offers_line(alloc: Global, name: &str, fault: &OffersFault) -> Result<Vec<u8>, AllocError> {
+    let mut line = Vec::new(alloc);
+    line.extend_from_slice(name.as_bytes())?;
+    match fault {
+        OffersFault::BadKey(key) => {
+            line.extend_from_slice(b": the key ")?;
+            line.extend_from_slice(key.as_str().as_bytes())?;
+            line.extend_from_slice(b" of offers is refused: nothing here serves that, or it is no flag\n")?;
+        }
+        OffersFault::TooLarge => {
+            line.extend_from_slice(b": the key offers is refused: it is too long for a response\n")?;
+        }
+        _ => line.extend_from_slice(b": the key offers is refused: it is no object\n")?,
+    }
+    Ok(line)
+}
+
+/// Tells why what a file offers is refused: as a bad key.
+fn tell_offers(
+    rt: &HostRuntime,
+    matches: &ArgMatches<'_>,
+    file: Subject<'_>,
+    fault: OffersFault,
+) -> u8 {
+    if matches!(fault, OffersFault::OutOfMemory) {
+        return tell(rt, matches, file, &ToolFault::OutOfMemory);
+    }
+    let _ = rt.stderr().write_all(b"dap: BadKey\n");
+    if dap_words::explains(matches) {
+        // Where it finds no memory there is none.
+        if let Ok(line) = offers_line(rt.alloc(), file.name, &fault) {
+            let _ = rt.stderr().write_all(&line);
+        }
+    }
+    FINDING
 }
 
 /// The line that explains why a file has no sources for a host.

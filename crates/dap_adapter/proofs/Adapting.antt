@@ -8,6 +8,7 @@ use Rattle.dap_history.specs.HistoryLaws.{HistoriesGrow}
 use Rattle.dap_history.specs.Received.{Received}
 use Rattle.dap_envelope.specs.InRange.{ReadIsInRange}
 use Rattle.dap_envelope.specs.declared.message.Message.{Message}
+use Rattle.dap_command.specs.declared.offer.Offer.{Offer}
 use Rattle.dap_debuggee.specs.Shown.{Shown}
 use Rattle.dap_plan.specs.declared.fault.AdapterFault.{AdapterFault}
 use Rattle.dap_plan.specs.Carried.{Goes}
@@ -16,7 +17,7 @@ use Rattle.dap_plan.specs.Laws.{CanMake, can_make, EachStepGoesOn}
 use Rattle.dap_plan.specs.Plan.{Made, Plan, entries_of}
 use Rattle.dap_plan.specs.Polling.{polls}
 use Rattle.dap_plan.specs.SessionState.{SessionState, Carries, HasTurned}
-use Rattle.dap_plan.specs.Session.{Session, IsOrderly, fresh_session}
+use Rattle.dap_plan.specs.Session.{Session, IsOrderly, opened_session}
 use Rattle.dap_plan.specs.Within.{IsWithin, EachStepStaysWithin}
 use Rattle.dap_adapter.specs.Calls.{Step, Handled, Saw}
 use Rattle.dap_adapter.specs.AdapterState.{AdapterState, state_of}
@@ -86,11 +87,11 @@ handled grow ranges laws within shown follows old new bytes from to a b i fault 
           (λ made can is w. within.turn (shown old.debuggee) old.session t.plan made w due can);
     }
 
-pub fresh-follows : HistoriesGrow → (limits : Settings) → Follows (fresh_session limits) []
-fresh-follows laws limits = record { kept = refl; answers = laws.answers_none Came; accepted = laws.answers_none Went; asked = refl; references = refl; used = refl; numbered = tt }
+pub opened-follows : HistoriesGrow → (limits : Settings) (offers : Offer) → Follows (opened_session limits offers) []
+opened-follows laws limits offers = record { kept = refl; answers = laws.answers_none Came; accepted = laws.answers_none Went; asked = refl; references = refl; used = refl; numbered = tt }
 
-pub fresh-within : (limits : Settings) → IsWithin (fresh_session limits)
-fresh-within limits = record { distinct = tt; kept = omega arith; asked = refl; used = omega arith; references = omega arith; numbers = omega arith; breakpoints = omega arith; ids = omega arith }
+pub opened-within : (limits : Settings) (offers : Offer) → IsWithin (opened_session limits offers)
+opened-within limits offers = record { distinct = tt; kept = omega arith; asked = refl; used = omega arith; references = omega arith; numbers = omega arith; breakpoints = omega arith; ids = omega arith }
 
 pub sees : {D : Type 0} (grow : HistoriesGrow) (ranges : ReadIsInRange) (laws : EachStepGoesOn) (within : EachStepStaysWithin) (follows : Goes D) (old new : AdapterState D) (bytes : List ℕ) (from to : SessionState D)
     → from ≡ state_of old → to ≡ state_of new → new.intake ≡ old.intake

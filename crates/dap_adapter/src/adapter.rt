@@ -12,12 +12,13 @@ ghost use Rattle.dap_reader.specs.declared.fault.ReadFault.{ReadFault};
 ghost use Rattle.std.specs.Option.{option_copied};
 ghost use Rattle.dap_tables.specs.References.{target_of};
 ghost use Rattle.dap_tables.specs.SourceMap.{count};
-ghost use Rattle.dap_plan.specs.Session.{fresh_session, oldest, own_requests, to_handle};
+ghost use Rattle.dap_plan.specs.Session.{fresh_session, opened_session, offers_fit, oldest, own_requests, to_handle};
 ghost use Rattle.dap_plan.specs.SessionState.{AppendsSome};
 ghost use Rattle.dap_decision.specs.Table.{is_phase};
 ghost use Rattle.dap_decision.specs.declared.phase.Phase.TheVariants.{Asked};
 
 use crate::taken::{Came, Taken, Turned};
+use dap_command::Offer;
 use dap_debuggee::{Debuggee, HasMail};
 use dap_envelope::laws::read_is_in_range;
 use dap_frame::{End, Limits};
@@ -25,7 +26,7 @@ use dap_history::laws::histories_grow;
 use dap_plan::AdapterFault;
 use dap_plan::laws::{each_step_goes_on, each_step_stays_within};
 use dap_reader::{MessageReader, Next, ReadFault};
-use dap_session::{Phase, Session};
+use dap_session::{Phase, Session, usual_offers};
 use dap_tables::Target;
 use std::alloc::{AllocError, Global};
 use std::marker::Model;
@@ -58,7 +59,7 @@ impl<D: Debuggee + Drop> Adapter<D> {
     ghost use Rattle.dap_adapter.specs.StandsFor.{StandsFor};
     ghost use Rattle.dap_adapter.specs.declared.taken.Turned.{Turned};
 
-    /// A fresh end. The debuggee is not started.
+    /// A fresh end. The debuggee is not started. All that is served is offered, and no more.
     pub fn open(alloc: Global, limits: Limits, debuggee: D) -> Result<Adapter<D>, AllocError>
         requires { (D.shown debuggee).state ≡ State.NotStarted }
         ensures session { IfOk result (λ a. a.session ≡ fresh_session limits) }
@@ -66,9 +67,26 @@ impl<D: Debuggee + Drop> Adapter<D> {
         ensures fault { IfOk result (λ a. a.fault ≡ None) }
         ensures stands { IfOk result (λ a. StandsFor a [] []) }
     {
+        Adapter::open_with(alloc, limits, debuggee, usual_offers(limits))
+    }
+
+    /// The same, with these offers. They fit within the limits where [`offers_fit`](crate::offers_fit) says so.
+    pub fn open_with(
+        alloc: Global,
+        limits: Limits,
+        debuggee: D,
+        offers: Offer,
+    ) -> Result<Adapter<D>, AllocError>
+        requires not_started { (D.shown debuggee).state ≡ State.NotStarted }
+        requires fit { IsTrue (offers_fit limits offers) }
+        ensures session { IfOk result (λ a. a.session ≡ opened_session limits offers) }
+        ensures debuggee { IfOk result (λ a. a.debuggee ≡ debuggee) }
+        ensures fault { IfOk result (λ a. a.fault ≡ None) }
+        ensures stands { IfOk result (λ a. StandsFor a [] []) }
+    {
         histories_grow();
         let reader = MessageReader::open(alloc, &limits)?;
-        let session = Session::open(alloc, limits, debuggee)?;
+        let session = Session::open_with(alloc, limits, debuggee, offers)?;
         Ok(Adapter {
             session,
             reader,

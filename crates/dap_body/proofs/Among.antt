@@ -14,13 +14,13 @@ use Rattle.dap_body.specs.Beside.{field_of, fields_of, before_key, after_key, am
 use Rattle.dap_body.specs.BesideLaws.{is_own}
 use Rattle.dap_body.specs.Row.{Field, Row, value_data, is_before, is_in_order, with_member, members_of}
 
-abbrev cmp : List ℕ → List ℕ → Ordering
+abbrev pub cmp : List ℕ → List ℕ → Ordering
 cmp k l = slice_cmp nat_cmp k l
 
 abbrev less : Ordering → Bool
 less o = match_ordering o true false false
 
-abbrev same : Ordering → Bool
+abbrev pub same : Ordering → Bool
 same o = match_ordering o false true false
 
 is_less : (o : Ordering) → less o ≡ true → o ≡ Less
@@ -112,10 +112,10 @@ order-among (f ∷ row) (m ∷ ms) h g =
 
 -- ---- what there is at a key
 
-abbrev at : List ℕ → Row → Option Data
+abbrev pub at : List ℕ → Row → Option Data
 at key row = get_member key (members_of row)
 
-abbrev at-by : Ordering → Option Data → Option Data → Option Data
+abbrev pub at-by : Ordering → Option Data → Option Data → Option Data
 at-by o None rest = rest
 at-by o (Some d) rest = match_ordering o rest (Some d) rest
 
@@ -123,11 +123,11 @@ at-first : (key k : List ℕ) (o : Option Data) (ms : Members) → get_member ke
 at-first key k None ms = refl
 at-first key k (Some d) ms = refl
 
-at-cons : (key : List ℕ) (f : Field) (row : Row) → at key (f ∷ row) ≡ at-by (cmp key f.0) (value_data f.1) (at key row)
+pub at-cons : (key : List ℕ) (f : Field) (row : Row) → at key (f ∷ row) ≡ at-by (cmp key f.0) (value_data f.1) (at key row)
 at-cons key f row = at-first key f.0 (value_data f.1) (members_of row)
 
 -- at another key
-at-other : (o : Ordering) (d rest : Option Data) → same o ≡ false → at-by o d rest ≡ rest
+pub at-other : (o : Ordering) (d rest : Option Data) → same o ≡ false → at-by o d rest ≡ rest
 at-other o None rest e = refl
 at-other Less (Some d) rest e = refl
 at-other Equal (Some d) rest e = absurd (true≢false e)

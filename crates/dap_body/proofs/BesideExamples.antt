@@ -1,6 +1,6 @@
 -- Worked examples of rows with members beside them, each shown by computation.
 use Rattle.std.proofs.Common.{◌≡◌, ℕ, List, [], ◌∷◌, codes, refl}
-use Rattle.serde_json.specs.Data.{Data, null, boolean}
+use Rattle.serde_json.specs.Data.{null}
 use Rattle.dap_json.specs.declared.more.Member.{Member}
 use Rattle.dap_body.specs.Row.{Row, text}
 use Rattle.dap_body.specs.Beside.{field_of, before_key, after_key, among, fit_members, beside}

@@ -1,5 +1,5 @@
 -- Worked examples, each shown by computation.
-use Rattle.std.proofs.Common.{◌≡◌, [], ◌∷◌, codes, length, map, true, false, Some, None, pos, negsuc, refl}
+use Rattle.std.proofs.Common.{◌≡◌, [], ◌∷◌, bytes_eq, codes, length, map, true, false, Some, None, pos, negsuc, refl}
 use Rattle.std.specs.Fmt.{digits}
 use Rattle.json.specs.Print.{escape_byte}
 use Rattle.serde_json.specs.Data.{boolean, negative, number, string, array, object, no_items, no_members, member}
@@ -7,11 +7,15 @@ use Rattle.serde_json.specs.Written.{compact_text}
 use Rattle.dap_json.specs.Put.{whole_number}
 use Rattle.dap_command.specs.declared.key.Key.TheVariants as key
 use Rattle.dap_body.specs.Failure.{row_of, failures_in_order, failure_body, explained_body}
-use Rattle.dap_body.specs.ResponseBody.{set_breakpoints_body, threads_body, continue_body, stack_trace_body, scopes_body, variables_body, evaluate_body, set_variable_body, source_body, loaded_sources_body}
+use Rattle.dap_body.specs.ResponseBody.{set_breakpoints_body, threads_body, continue_body, stack_trace_body, scopes_body, variables_body, evaluate_body, set_variable_body, source_body, loaded_sources_body, initialize_body}
 use Rattle.dap_json.specs.declared.more.Member.{Member}
 use Rattle.dap_body.specs.EventBody.{output_body, stopped_body, continued_body, exited_body}
 use Rattle.dap_body.specs.declared.failure.Failure.TheVariants.{NotInitialized, BadArguments, NotStopped, Debuggee, TooLarge, Busy, Cancelled}
 use Rattle.dap_body.specs.declared.response.Source.{Source}
+use Rattle.dap_command.specs.Capabilities.{capabilities_of}
+use Rattle.dap_command.specs.Command.{flag_of}
+use Rattle.dap_command.specs.declared.capabilities.Capabilities.{Capabilities}
+use Rattle.dap_command.specs.declared.command.Gate.TheVariants as gate
 
 -- ---- failures
 
@@ -208,3 +212,18 @@ nor_into_a_value_that_is_set = refl
 none_out_of_order : compact_text (evaluate_body (codes "1") 0 (a_type ∷ an_expression ∷ [])) ≡ codes "{\"result\":\"1\",\"variablesReference\":0}"
 unfolding escape_byte digits
 none_out_of_order = refl
+
+-- ---- what is offered
+
+abbrev goes_back : Capabilities
+goes_back = capabilities_of (λ g. bytes_eq (flag_of g) (flag_of gate.StepBack))
+
+flags_that_are_set : (compact_text (initialize_body goes_back []) ≡ codes "{\"supportsStepBack\":true}") × (compact_text (initialize_body (capabilities_of (λ g. false)) []) ≡ codes "{}")
+unfolding escape_byte
+flags_that_are_set = (refl, refl)
+
+-- a flag that gates a command is no member's, also one that is not set, nor is a key of references
+others_beside : compact_text (initialize_body goes_back (record { key = codes "a"; value = boolean true } ∷ record { key = codes "supportsLogPoints"; value = boolean true } ∷ record { key = codes "supportsModulesRequest"; value = boolean true } ∷ record { key = codes "supportsStepBack"; value = boolean false } ∷ record { key = codes "variables"; value = boolean true } ∷ record { key = codes "z"; value = boolean false } ∷ []))
+    ≡ codes "{\"a\":true,\"supportsLogPoints\":true,\"supportsStepBack\":true,\"z\":false}"
+unfolding escape_byte
+others_beside = refl

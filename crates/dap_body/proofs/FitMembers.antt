@@ -15,6 +15,7 @@ use Rattle.dap_body.specs.Row.{Field, Row, whole_if_any, is_in_order, object_of}
 use Rattle.dap_body.specs.PrivateText.{wrote, wrote_row, wrote_among, HasSoundFields, IsSoundRow, PutsBefore, PutsNone}
 use Rattle.serde_json.specs.Find.{get}
 use Rattle.dap_body.specs.BesideLaws.{MoreIsBeside, OwnFieldsAreInOrder, is_own}
+use Rattle.dap_body.proofs.OffersAlone.{written_alone}
 use Rattle.dap_body.proofs.Among.{placed, among-step, among-none, own-among, others-among, order-among}
 
 if-more : (b : Bool) (ms : List Member) → are_more ms ≡ b → are_in_order (if b then ms else []) ≡ true
@@ -52,6 +53,8 @@ own_fields_are_in_order = record {
   set_variable = λ value. refl;
   output = λ category text. refl;
   stopped = λ reason thread. refl;
+  initialize = λ c. refl;
+  initialize_alone = written_alone;
   evaluate_alone = λ result reference. refl;
   set_variable_alone = λ value. refl;
   output_alone = λ category text. refl;

@@ -10,6 +10,7 @@ use Rattle.dap_json.specs.Put.{whole_number}
 use Rattle.dap_command.specs.GivenReferences.{reference_at, references_in}
 use Rattle.dap_body.specs.ResponseBody.{stack_frame_fields, stack_frame, scope_fields, scope, variable_fields, variable, evaluate_fields, evaluate_body, set_variable_fields}
 use Rattle.dap_body.proofs.FitMembers.{own}
+use Rattle.dap_body.proofs.Offered.{at_none}
 use Rattle.dap_body.specs.Row.{object_of}
 use Rattle.dap_body.specs.GivenNumbers.{references_among, BodiesGiveTheirNumbers}
 
@@ -46,6 +47,12 @@ numbers_read key least each number h (x ∷ xs) =
 pub bodies_give_their_numbers : BodiesGiveTheirNumbers
 bodies_give_their_numbers =
     record {
+      initialize = λ c more. (
+        rw (at_none c more (codes "stackFrames") refl refl) refl,
+        rw (at_none c more (codes "scopes") refl refl) refl,
+        rw (at_none c more (codes "variables") refl refl) refl,
+        rw (at_none c more (codes "variablesReference") refl refl) refl,
+      );
       stack_trace = λ frames total. numbers_read (codes "id") 0 (λ f. object_of (stack_frame f)) (λ f. f.id) (λ f. own (stack_frame_fields f) f.more (codes "id") refl refl) frames;
       scopes = λ scopes. numbers_read (codes "variablesReference") 1 (λ s. object_of (scope s)) (λ s. s.variables_reference) (λ s. own (scope_fields s) s.more (codes "variablesReference") refl refl) scopes;
       variables = λ variables. numbers_read (codes "variablesReference") 1 (λ v. object_of (variable v)) (λ v. v.variables_reference) (λ v. own (variable_fields v) v.more (codes "variablesReference") refl refl) variables;

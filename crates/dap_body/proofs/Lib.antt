@@ -3,8 +3,9 @@ pub mod Tokens
 pub mod Rows
 pub mod Among
 pub mod FitMembers
+mod OffersAlone
+mod FlagLemmas
 mod BesideExamples
-mod OfParts
 pub mod PlainBodies
 pub mod GivenNumbers
 pub mod Offered

@@ -1,23 +1,20 @@
 -- What the builders give has no floats, and nests no deeper than a body may.
-use Rattle.dap_json.proofs.PlainPut.{put_float, put_depth}
 use Rattle.std.specs.Ordering.{nat_cmp}
 use Rattle.std.specs.Cmp.Lexicographic.{slice_cmp}
 use Rattle.std.specs.declared.cmp.Ordering.{Ordering}
 use Rattle.std.specs.declared.cmp.Ordering.TheVariants.{Less, Equal, Greater}
-use Rattle.std.proofs.Common.{◌≡◌, subst, if◌then◌else◌, ℕ, suc, ◌≤◌, ◌&&◌, ◌||◌, ℤ, pos, negsuc, List, [], ◌∷◌, map, Bool, true, false, not, nat_le, Option, Some, None, option_map, refl, sym, true≢false, arith}
+use Rattle.std.proofs.Common.{◌≡◌, subst, if◌then◌else◌, ℕ, suc, ◌≤◌, ◌&&◌, ◌||◌, ℤ, pos, negsuc, List, [], ◌∷◌, ◌++◌, codes, map, Bool, true, false, not, nat_le, Option, Some, None, option_map, refl, sym, true≢false, arith}
 use Rattle.std.specs.Bool.{⊤}
 use Rattle.std.proofs.lemmas.Bool.{le-leb, leb-true, and_parts}
 use Rattle.serde_json.specs.Data.{Data, boolean, number, object, Members, depth, items_depth, members_depth}
 use Rattle.serde_json.specs.Find.{of_integer}
 use Rattle.serde_json.specs.View.{items_of}
 use Rattle.serde_json.specs.Written.{has_float, items_have_float, members_have_float}
-use Rattle.dap_command.specs.Capabilities.{with_flag, capabilities_data}
-use Rattle.dap_command.specs.Command.{flag_of}
+use Rattle.dap_command.specs.Capabilities.{has}
 use Rattle.dap_command.specs.declared.capabilities.Capabilities.{Capabilities}
 use Rattle.dap_command.specs.declared.command.Gate.{Gate}
 use Rattle.serde_json.specs.Written.{compact_text}
 use Rattle.dap_json.specs.Field.{is_null}
-use Rattle.serde_json.specs.Read.{max_depth}
 use Rattle.dap_json.specs.Read.{json_of, IsReadAgain}
 use Rattle.dap_json.specs.Sound.{IsSound}
 use Rattle.dap_json.specs.Writable.{max_nesting, is_writable}
@@ -31,7 +28,7 @@ use Rattle.dap_body.specs.declared.event.EventBody.TheVariants.{Output, Stopped,
 use Rattle.dap_body.specs.declared.body.Body.{Body}
 use Rattle.dap_body.specs.declared.body.Body.TheVariants.{Initialize, SetBreakpoints, Threads, Continue, StackTrace, Scopes, Variables, SetVariable, Evaluate, Source as SourceText, LoadedSources, RunInTerminal}
 use Rattle.dap_body.specs.EventBody.{output_fields, output_row, stopped_fields, stopped_row, continued_row, exited_row}
-use Rattle.dap_body.specs.ResponseBody.{breakpoint_fields, breakpoint, thread_fields, thread, source_fields, source, stack_frame_fields, stack_frame, scope_fields, scope, variable_fields, variable, evaluate_fields, evaluate_row, set_variable_fields, set_variable_row, set_breakpoints_row, threads_row, stack_trace_row, scopes_row, variables_row, loaded_sources_row, run_in_terminal_row}
+use Rattle.dap_body.specs.ResponseBody.{breakpoint_fields, breakpoint, thread_fields, thread, source_fields, source, stack_frame_fields, stack_frame, scope_fields, scope, variable_fields, variable, evaluate_fields, evaluate_row, set_variable_fields, set_variable_row, set_breakpoints_row, threads_row, stack_trace_row, scopes_row, variables_row, loaded_sources_row, run_in_terminal_row, flag_fields, all_gates, initialize_fields, initialize_row}
 use Rattle.dap_body.specs.Row.{Field, Row, Value, text, whole, integer, flag, tree, text_if_any, whole_if_any, tree_if_any, value_data, with_member, members_of, object_of, list_of}
 use Rattle.dap_body.specs.PlainBodies.{IsPlain, ResponseBodiesArePlain, FailureBodiesArePlain, ExplainedBodiesArePlain, EventBodiesArePlain}
 use Rattle.dap_body.specs.declared.response.Thread.{Thread}
@@ -40,7 +37,6 @@ use Rattle.dap_body.specs.declared.response.Breakpoint.{Breakpoint}
 use Rattle.dap_body.specs.declared.response.Scope.{Scope}
 use Rattle.dap_body.specs.declared.response.Variable.{Variable}
 use Rattle.dap_body.specs.declared.response.StackFrame.{StackFrame}
-use Rattle.dap_body.proofs.Offered.{Flag, members_with, flags_of}
 
 no : (a : Bool) → not a ≡ true → a ≡ false
 no true e = absurd (true≢false (sym e))
@@ -183,16 +179,13 @@ up n d le h = let deep = h.1 in (h.0, omega (arith, deep))
 
 -- ---- capabilities
 
-flag_plain : (g : Gate) (on : Bool) (ms : Members) → MembersPlain 119 ms → MembersPlain 119 (with_flag g on ms)
-flag_plain g true ms h = (put_float (flag_of g) (boolean true) ms refl h.0, put_depth (flag_of g) (boolean true) ms (omega arith) h.1)
-flag_plain g false ms h = h
+flag_plain : (n : ℕ) (on : Bool) → PlainIfAny n (if on then Some (boolean true) else None)
+flag_plain n true = (refl, omega arith)
+flag_plain n false = tt
 
-flags_plain : (fs : List Flag) → MembersPlain 119 (members_with fs)
-flags_plain [] = (refl, omega arith)
-flags_plain (f ∷ fs) = flag_plain f.gate f.on (members_with fs) (flags_plain fs)
-
-capabilities_plain : (c : Capabilities) → IsPlain (capabilities_data c)
-capabilities_plain c = plain (members_with (flags_of c)) (flags_plain (flags_of c))
+flags_plain : (c : Capabilities) (gates : List Gate) (row : Row) → HasPlain 119 row → HasPlain 119 (flag_fields c gates ++ row)
+flags_plain c [] row h = h
+flags_plain c (g ∷ gates) row h = (flag_plain 119 (has c g), flags_plain c gates row h)
 
 -- ---- the laws
 
@@ -219,7 +212,7 @@ lists_plain n each le h xs = up (suc (suc n)) (list_of each xs) (omega arith) (l
 
 pub response_bodies_are_plain : ResponseBodiesArePlain
 response_bodies_are_plain = record {
-  initialize = capabilities_plain;
+  initialize = λ c more. row_plain (initialize_row c more) (beside_plain 119 (initialize_fields c) more (omega arith) (flags_plain c all_gates ((codes "variables", whole_if_any None) ∷ (codes "variablesReference", whole_if_any None) ∷ []) tt));
   set_breakpoints = λ bs. row_plain (set_breakpoints_row bs) (lists_plain 99 breakpoint (omega arith) breakpoint_plain bs, tt);
   threads = λ ts. row_plain (threads_row ts) (lists_plain 99 thread (omega arith) thread_plain ts, tt);
   continue = refl;
@@ -249,7 +242,7 @@ event_bodies_are_plain = record {
 }
 
 pub body_is_plain : (body : Body) → IsPlain (data_of body)
-body_is_plain (Initialize capabilities) = response_bodies_are_plain.initialize capabilities
+body_is_plain (Initialize capabilities more) = response_bodies_are_plain.initialize capabilities more
 body_is_plain (SetBreakpoints breakpoints) = response_bodies_are_plain.set_breakpoints breakpoints.items
 body_is_plain (Threads threads) = response_bodies_are_plain.threads threads.items
 body_is_plain Continue = response_bodies_are_plain.continue
@@ -286,17 +279,6 @@ event-again again body s = plain-again (event_data body) again (event_is_plain b
 
 pub body-again : IsReadAgain → (body : Body) → IsSound (data_of body) → json_of (compact_text (data_of body)) ≡ Some (data_of body)
 body-again again body s = plain-again (data_of body) again (body_is_plain body) s
-
--- ---- what is offered
-
-offers-parts : (c : Capabilities) → (has_float (capabilities_data c) ≡ false) × (depth (capabilities_data c) ≤ max_nesting)
-offers-parts c = plain-parts (capabilities_data c) (capabilities_plain c)
-
-pub offers-float : (c : Capabilities) → has_float (capabilities_data c) ≡ false
-offers-float c = (offers-parts c).0
-
-pub offers-shallow : (c : Capabilities) → depth (capabilities_data c) ≤ max_depth
-offers-shallow c = let shallow_enough = (offers-parts c).1 in omega arith
 
 -- ---- where something is read
 

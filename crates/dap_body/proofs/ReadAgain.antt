@@ -138,7 +138,7 @@ evaluation_again text reference more e =
     rw (own (evaluate_fields text reference) more (codes "result") refl refl, own (evaluate_fields text reference) more (codes "variablesReference") refl refl) (rw e)
 
 pub what_is_written_is_read_again : WhatIsWrittenIsReadAgain
-what_is_written_is_read_again (body.Initialize capabilities) = offered_again capabilities
+what_is_written_is_read_again (body.Initialize capabilities more) = offered_again capabilities more
 what_is_written_is_read_again (body.Threads threads) = threads_again threads.items
 what_is_written_is_read_again (body.StackTrace frames total) = stack_trace_again frames.items total
 what_is_written_is_read_again (body.Scopes scopes) = scopes_again scopes.items

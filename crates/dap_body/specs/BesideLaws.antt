@@ -8,8 +8,10 @@ use Rattle.dap_json.specs.declared.more.Member.{Member}
 use Rattle.dap_body.specs.Beside.{beside, fit_members}
 use Rattle.dap_body.specs.EventBody.{output_body, output_fields, stopped_body, stopped_fields}
 use Rattle.dap_body.specs.Row.{Row, is_in_order, object_of, text, whole}
-use Rattle.dap_body.specs.ResponseBody.{breakpoint_fields, thread_fields, source_fields, stack_frame_fields, scope_fields, variable_fields, evaluate_fields, evaluate_body, set_variable_fields, set_variable_body}
+use Rattle.dap_body.specs.ResponseBody.{breakpoint_fields, thread_fields, source_fields, stack_frame_fields, scope_fields, variable_fields, evaluate_fields, evaluate_body, set_variable_fields, set_variable_body, initialize_fields, initialize_body}
 use Rattle.dap_body.specs.declared.response.Breakpoint.{Breakpoint}
+use Rattle.dap_command.specs.Capabilities.{capabilities_data}
+use Rattle.dap_command.specs.declared.capabilities.Capabilities.{Capabilities}
 use Rattle.dap_body.specs.declared.response.Scope.{Scope}
 use Rattle.dap_body.specs.declared.response.Source.{Source}
 use Rattle.dap_body.specs.declared.response.StackFrame.{StackFrame}
@@ -46,6 +48,8 @@ pub record OwnFieldsAreInOrder : Type 0 where
   pub set_variable : (value : List ℕ) → is_in_order (set_variable_fields value) ≡ true
   pub output : (category output : List ℕ) → is_in_order (output_fields category output) ≡ true
   pub stopped : (reason : List ℕ) (thread : ℤ) → is_in_order (stopped_fields reason thread) ≡ true
+  pub initialize : (c : Capabilities) → is_in_order (initialize_fields c) ≡ true
+  pub initialize_alone : (c : Capabilities) → initialize_body c [] ≡ capabilities_data c
   pub evaluate_alone : (result : List ℕ) (reference : ℕ) → evaluate_body result reference [] ≡ object_of ((codes "result", text result) ∷ (codes "variablesReference", whole reference) ∷ [])
   pub set_variable_alone : (value : List ℕ) → set_variable_body value [] ≡ object_of ((codes "value", text value) ∷ [])
   pub output_alone : (category output : List ℕ) → output_body category output [] ≡ object_of ((codes "category", text category) ∷ (codes "output", text output) ∷ [])

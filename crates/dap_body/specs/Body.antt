@@ -1,18 +1,16 @@
 -- The data of a body's parts.
-use Rattle.std.specs.Prelude.{[], Option, option_map}
+use Rattle.std.specs.Prelude.{Option, option_map}
 use Rattle.serde_json.specs.Data.{Data}
-use Rattle.dap_command.specs.Capabilities.{capabilities_data}
 use Rattle.dap_body.specs.declared.body.Body.{Body}
 use Rattle.dap_body.specs.declared.body.Body.TheVariants.{Initialize, SetBreakpoints, Threads, Continue, StackTrace, Scopes, Variables, SetVariable, Evaluate, Source, LoadedSources, RunInTerminal}
 use Rattle.dap_body.specs.declared.event.EventBody.{EventBody}
 use Rattle.dap_body.specs.declared.event.EventBody.TheVariants.{Output, Stopped, Continued, Exited}
 use Rattle.dap_body.specs.EventBody.{output_row, stopped_row, continued_row, exited_row}
 use Rattle.dap_body.specs.Row.{Row, object_of}
-use Rattle.dap_body.specs.ResponseBody.{set_breakpoints_row, threads_row, continue_row, stack_trace_row, scopes_row, variables_row, set_variable_row, evaluate_row, source_row, loaded_sources_row, run_in_terminal_row}
+use Rattle.dap_body.specs.ResponseBody.{initialize_row, set_breakpoints_row, threads_row, continue_row, stack_trace_row, scopes_row, variables_row, set_variable_row, evaluate_row, source_row, loaded_sources_row, run_in_terminal_row}
 
--- of all but what is offered
 abbrev pub row_of : Body → Row
-row_of (Initialize capabilities) = []
+row_of (Initialize capabilities more) = initialize_row capabilities more
 row_of (SetBreakpoints breakpoints) = set_breakpoints_row breakpoints.items
 row_of (Threads threads) = threads_row threads.items
 row_of Continue = continue_row
@@ -26,7 +24,6 @@ row_of (LoadedSources sources) = loaded_sources_row sources.items
 row_of (RunInTerminal process_id shell_process_id) = run_in_terminal_row process_id shell_process_id
 
 abbrev pub data_of : Body → Data
-data_of (Initialize capabilities) = capabilities_data capabilities
 data_of body = object_of (row_of body)
 
 -- where there is a body

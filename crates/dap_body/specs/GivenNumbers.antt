@@ -2,9 +2,10 @@
 -- Specification, "StackTraceResponse", "ScopesResponse", "VariablesResponse", "EvaluateResponse", "SetVariableResponse".
 use Rattle.std.specs.Prelude.{◌≡◌, ℕ, List, [], ◌∷◌, map, filter, ◌&&◌, nat_le}
 use Rattle.dap_json.specs.declared.more.Member.{Member}
+use Rattle.dap_command.specs.declared.capabilities.Capabilities.{Capabilities}
 use Rattle.dap_command.specs.GivenReferences.{frame_ids, holders_of}
 use Rattle.dap_command.specs.declared.command.Command.TheVariants.{Scopes, Variables, Evaluate, SetVariable}
-use Rattle.dap_body.specs.ResponseBody.{stack_trace_body, scopes_body, variables_body, set_variable_body, evaluate_body}
+use Rattle.dap_body.specs.ResponseBody.{initialize_body, stack_trace_body, scopes_body, variables_body, set_variable_body, evaluate_body}
 use Rattle.dap_body.specs.declared.response.Scope.{Scope}
 use Rattle.dap_body.specs.declared.response.StackFrame.{StackFrame}
 use Rattle.dap_body.specs.declared.response.Variable.{Variable}
@@ -14,6 +15,8 @@ abbrev pub references_among : ℕ → List ℕ → List ℕ
 references_among least ns = filter (λ n. nat_le least n && nat_le n 2147483647) ns
 
 pub record BodiesGiveTheirNumbers : Type 0 where
+  -- read as that of any command, none
+  pub initialize : (capabilities : Capabilities) (more : List Member) → (frame_ids (initialize_body capabilities more) ≡ []) × (holders_of Scopes (initialize_body capabilities more) ≡ []) × (holders_of Variables (initialize_body capabilities more) ≡ []) × (holders_of Evaluate (initialize_body capabilities more) ≡ [])
   pub stack_trace : (frames : List StackFrame) (total : ℕ) → frame_ids (stack_trace_body frames total) ≡ references_among 0 (map (λ f. f.id) frames)
   pub scopes : (scopes : List Scope) → holders_of Scopes (scopes_body scopes) ≡ references_among 1 (map (λ s. s.variables_reference) scopes)
   pub variables : (variables : List Variable) → holders_of Variables (variables_body variables) ≡ references_among 1 (map (λ v. v.variables_reference) variables)

@@ -4,11 +4,10 @@ use Rattle.std.specs.Prelude.{ℕ, ℤ, List, Bool, Option, IsTrue, Some}
 use Rattle.serde_json.specs.Data.{Data}
 use Rattle.dap_json.specs.Writable.{is_plain_tree}
 use Rattle.dap_json.specs.declared.more.Member.{Member}
-use Rattle.dap_command.specs.Capabilities.{capabilities_data}
 use Rattle.dap_command.specs.declared.capabilities.Capabilities.{Capabilities}
 use Rattle.dap_body.specs.EventBody.{output_body, stopped_body, continued_body, exited_body}
 use Rattle.dap_body.specs.Failure.{failure_body, explained_body}
-use Rattle.dap_body.specs.ResponseBody.{set_breakpoints_body, threads_body, continue_body, stack_trace_body, scopes_body, variables_body, set_variable_body, evaluate_body, source_body, loaded_sources_body, run_in_terminal_body}
+use Rattle.dap_body.specs.ResponseBody.{set_breakpoints_body, threads_body, continue_body, stack_trace_body, scopes_body, variables_body, set_variable_body, evaluate_body, source_body, loaded_sources_body, run_in_terminal_body, initialize_body}
 use Rattle.dap_body.specs.declared.failure.Failure.{Failure}
 use Rattle.dap_body.specs.declared.response.Breakpoint.{Breakpoint}
 use Rattle.dap_body.specs.declared.response.Scope.{Scope}
@@ -21,7 +20,7 @@ abbrev pub IsPlain : Data → Type 0
 IsPlain d = IsTrue (is_plain_tree (Some d))
 
 pub record ResponseBodiesArePlain : Type 0 where
-  pub initialize : (capabilities : Capabilities) → IsPlain (capabilities_data capabilities)
+  pub initialize : (capabilities : Capabilities) (more : List Member) → IsPlain (initialize_body capabilities more)
   pub set_breakpoints : (breakpoints : List Breakpoint) → IsPlain (set_breakpoints_body breakpoints)
   pub threads : (threads : List Thread) → IsPlain (threads_body threads)
   pub continue : IsPlain continue_body

@@ -1,5 +1,5 @@
 -- What a writer is given for a row of fields.
-use Rattle.std.specs.Prelude.{◌≡◌, ℕ, List, [], ◌∷◌, ◌++◌, Option, Some, None, Bool, true, false, ⊤, IsUtf8, IsTrue}
+use Rattle.std.specs.Prelude.{◌≡◌, ℕ, List, [], ◌∷◌, ◌++◌, Option, Some, None, false, ⊤, IsUtf8, IsTrue}
 use Rattle.json.specs.Token.{Token, key}
 use Rattle.json.specs.Tree.{json_tokens}
 use Rattle.serde_json.specs.Data.{Data}
@@ -9,8 +9,9 @@ use Rattle.dap_json.specs.More.{members_of}
 use Rattle.dap_json.specs.declared.more.Member.{Member}
 use Rattle.dap_body.specs.Beside.{fields_of, before_key, after_key}
 use Rattle.dap_body.specs.Row.{Field, Row, whole_if_any, value_data, is_in_order}
-use Rattle.dap_body.specs.declared.body.Body.{Body}
-use Rattle.dap_body.specs.declared.body.Body.TheVariants.{Initialize}
+use Rattle.dap_body.specs.ResponseBody.{flag_fields}
+use Rattle.dap_command.specs.declared.capabilities.Capabilities.{Capabilities}
+use Rattle.dap_command.specs.declared.command.Gate.{Gate}
 
 abbrev pub tokens_of : Data → List Token
 tokens_of d = json_tokens (outline d)
@@ -62,7 +63,6 @@ HasSoundFields (field ∷ row) = IsSoundField field × HasSoundFields row
 abbrev pub IsSoundRow : Row → Type 0
 IsSoundRow row = IsTrue (is_in_order row) × HasSoundFields row
 
--- its parts are written one by one
-abbrev pub is_of_parts : Body → Bool
-is_of_parts (Initialize capabilities) = false
-is_of_parts _ = true
+-- the flags of these gates were written among the members, and these are those behind them, whatever comes then
+abbrev pub PutsFlags : Capabilities → List Gate → List Member → List Token → List Member → List Token → Type 0
+PutsFlags c gates ms ts left us = (row : Row) → wrote_among (flag_fields c gates ++ row) ms ts ≡ wrote_among row left us

@@ -71,7 +71,7 @@ breakpoint_fits b = is_whole b.id && is_number b.line
 -- ---- the law, of each body that is read here
 
 abbrev pub IsReadAgain : Body → Type 0
-IsReadAgain (body.Initialize capabilities) = offered_by (Some (data_of (body.Initialize capabilities))) ≡ capabilities
+IsReadAgain (body.Initialize capabilities more) = offered_by (Some (data_of (body.Initialize capabilities more))) ≡ capabilities
 IsReadAgain (body.Threads threads) = list_all thread_fits threads.items ≡ true → threads_in (data_of (body.Threads threads)) ≡ Ok (map thread_read threads.items)
 IsReadAgain (body.StackTrace frames total) = list_all stack_frame_fits frames.items ≡ true → is_whole total ≡ true
     → stack_trace_in (data_of (body.StackTrace frames total)) ≡ Ok (record { stack_frames = map stack_frame_read frames.items; total_frames = Some total })

@@ -1,10 +1,17 @@
 -- The bodies of responses, and the objects in them, as rows of fields: Specification, the types whose names end in "Response", and "Types".
 -- Which of the optional members are a row's own is this profile's choice. A member that a row never has is its own all the same where a reader would take it for references, as `variablesReference` of a value that is set.
-use Rattle.std.specs.Prelude.{ℕ, List, [], ◌∷◌, true, false, Option, None, codes, option_map}
-use Rattle.serde_json.specs.Data.{Data}
+use Rattle.std.specs.Prelude.{ℕ, List, [], ◌∷◌, ◌++◌, Bool, true, false, Option, Some, None, codes, map, option_map, if◌then◌else◌}
+use Rattle.serde_json.specs.Data.{Data, boolean}
+use Rattle.dap_command.specs.Capabilities.{has}
+use Rattle.dap_command.specs.Command.{flag_of}
+use Rattle.dap_command.specs.Offer.{gates_of}
+use Rattle.dap_command.specs.declared.capabilities.Capabilities.{Capabilities}
+use Rattle.dap_command.specs.declared.offer.Offer.{Offer}
+use Rattle.dap_command.specs.declared.command.Gate.{Gate}
+use Rattle.dap_command.specs.declared.command.Gate.TheVariants as gate
 use Rattle.dap_json.specs.declared.more.Member.{Member}
 use Rattle.dap_body.specs.Beside.{beside}
-use Rattle.dap_body.specs.Row.{Row, object_of, list_of, text, whole, integer, flag, tree, text_if_any, whole_if_any, tree_if_any}
+use Rattle.dap_body.specs.Row.{Value, Row, object_of, list_of, text, whole, integer, flag, tree, text_if_any, whole_if_any, tree_if_any}
 use Rattle.dap_body.specs.declared.response.Breakpoint.{Breakpoint}
 use Rattle.dap_body.specs.declared.response.Scope.{Scope}
 use Rattle.dap_body.specs.declared.response.Source.{Source}
@@ -51,6 +58,27 @@ variable_fields v = (codes "name", text v.name) ∷ (codes "value", text v.value
 
 abbrev pub variable : Variable → Row
 variable v = beside (variable_fields v) v.more
+
+-- ---- what is offered
+
+-- a flag is written where it is set
+abbrev pub set_flag : Bool → Value
+set_flag on = tree_if_any (if on then Some (boolean true) else None)
+
+abbrev pub flag_fields : Capabilities → List Gate → Row
+flag_fields c gates = map (λ g. (flag_of g, set_flag (has c g))) gates
+
+-- in the byte order of their flags
+abbrev pub all_gates : List Gate
+all_gates = gate.BreakpointLocations ∷ gate.Cancel ∷ gate.Completions ∷ gate.ConfigurationDone ∷ gate.ExceptionInfo ∷ gate.FunctionBreakpoints ∷ gate.LoadedSources ∷ gate.Modules ∷ gate.Restart ∷ gate.SetVariable ∷ gate.StepBack ∷ gate.Terminate ∷ []
+
+abbrev pub initialize_fields : Capabilities → Row
+initialize_fields c =
+    (codes "scopes", whole_if_any None) ∷ (codes "stackFrames", whole_if_any None)
+    ∷ flag_fields c all_gates ++ (codes "variables", whole_if_any None) ∷ (codes "variablesReference", whole_if_any None) ∷ []
+
+abbrev pub initialize_row : Capabilities → List Member → Row
+initialize_row c more = beside (initialize_fields c) more
 
 -- ---- the bodies
 
@@ -100,6 +128,13 @@ abbrev pub run_in_terminal_row : Option ℕ → Option ℕ → Row
 run_in_terminal_row process shell = (codes "processId", whole_if_any process) ∷ (codes "shellProcessId", whole_if_any shell) ∷ []
 
 -- ---- as objects
+
+abbrev pub initialize_body : Capabilities → List Member → Data
+initialize_body c more = object_of (initialize_row c more)
+
+-- what an adapter offers, as the body of its response
+abbrev pub offer_body : Offer → Data
+offer_body o = initialize_body (gates_of o) o.more
 
 abbrev pub set_breakpoints_body : List Breakpoint → Data
 set_breakpoints_body breakpoints = object_of (set_breakpoints_row breakpoints)

@@ -102,7 +102,11 @@ pub(crate) fn put_left(out: &mut Writer, members: &[Member]) -> Result<(), Alloc
 }
 
 /// Writes those that come before a key at which nothing is written, and gives those that come behind it.
-pub(crate) fn put_none<'m>(out: &mut Writer, key: &str, left: &'m [Member]) -> Result<&'m [Member], AllocError>
+pub(crate) fn put_none<'m>(
+    out: &mut Writer,
+    key: &str,
+    left: &'m [Member],
+) -> Result<&'m [Member], AllocError>
     requires { HasNoFloats left.now }
     ensures puts { IfOk result (λ later. PutsNone key.now left.now out.old.tokens later.now out.new.tokens) }
     ensures sound { IsSoundField (key.now, whole_if_any None) }

@@ -1,21 +1,21 @@
 //! The bodies of responses as their parts, and their texts, written with no tree: Specification, the types
 //! whose names end in "Response", and "Types".
-ghost use Rattle.std.specs.Prelude.{◌≡◌, ◌++◌, IfOk, OnOk, OnErr, IsTrue};
+ghost use Rattle.std.specs.Prelude.{◌≡◌, ◌++◌, IfOk, OnOk, OnErr};
 ghost use Rattle.serde_json.specs.Written.{compact_text};
 ghost use Rattle.serde_json.specs.View.{view};
 ghost use Rattle.dap_json.specs.Sound.{IsSound};
 ghost use Rattle.dap_body.specs.Body.{data_of};
-ghost use Rattle.dap_command.specs.Capabilities.{capabilities_data};
-ghost use Rattle.dap_body.specs.PrivateText.{is_of_parts, wrote_row, IsSoundRow};
+ghost use Rattle.dap_body.specs.PrivateText.{wrote_row, IsSoundRow};
 ghost use Rattle.dap_body.specs.ResponseBody.{evaluate_row, set_variable_row};
 
 use crate::beside::{fit_members, put_before, put_left, put_none};
+use crate::offers::write_offers;
 use crate::response::{Breakpoint, Scope, Source, StackFrame, Thread, Variable};
 use crate::row::{
     Fields, append_object, put_flag, put_list, put_number, put_short, put_short_if_any, put_text,
 };
 use dap_command::Capabilities;
-use dap_json::laws::{text_is_read_again, what_is_read_is_sound};
+use dap_json::laws::text_is_read_again;
 use dap_json::{More, ParseFault, Text, parse};
 use json::Writer;
 use serde_json::Value;
@@ -27,6 +27,7 @@ pub enum Body {
     /// What the adapter offers.
     Initialize {
         capabilities: Capabilities,
+        more: More,
     },
     /// An answer to each line that was asked for, in order.
     SetBreakpoints {
@@ -107,7 +108,6 @@ fn write_evaluation(
     put_left(out, left)
 }
 
-/// Of all but what is offered, which is written by way of its tree, in `append_offers`.
 impl Fields for Body {
     ghost use Rattle.dap_body.specs.Body.{row_of};
 
@@ -115,7 +115,7 @@ impl Fields for Body {
 
     fn write(&self, out: &mut Writer) -> Result<(), AllocError> {
         match self {
-            Body::Initialize { .. } => Ok(()),
+            Body::Initialize { capabilities, more } => write_offers(out, capabilities, more),
             Body::SetBreakpoints { breakpoints } => {
                 put_list(out, "breakpoints", breakpoints.as_slice())
             }
@@ -149,43 +149,13 @@ impl Fields for Body {
     }
 }
 
-/// Appends the text of what is offered, or changes nothing.
-fn append_offers(
-    alloc: Global,
-    out: &mut Vec<u8>,
-    capabilities: &Capabilities,
-) -> Result<(), AllocError>
-    ensures ok { OnOk result (out.new.items ≡ out.old.items ++ compact_text (capabilities_data capabilities.now)) }
-    ensures sound { OnOk result (IsSound (capabilities_data capabilities.now)) }
-    ensures err { OnErr result (out.new.items ≡ out.old.items) }
-{
-    // A law for the proof: what is written is read again, and what is read is sound.
-    what_is_read_is_sound();
-    let tree = capabilities.write(alloc)?;
-    out.extend_from_slice(&dap_json::write(alloc, &tree)?)?;
-    Ok(())
-}
-
-/// Appends the text of a body that is a row of fields, or changes nothing.
-fn append_parts(alloc: Global, out: &mut Vec<u8>, body: &Body) -> Result<(), AllocError>
-    requires { IsTrue (is_of_parts body.now) }
-    ensures ok { OnOk result (out.new.items ≡ out.old.items ++ compact_text (data_of body.now)) }
-    ensures sound { OnOk result (IsSound (data_of body.now)) }
-    ensures err { OnErr result (out.new.items ≡ out.old.items) }
-{
-    append_object(alloc, out, body)
-}
-
 /// Appends the text of a body, or changes nothing.
 pub fn append_body(alloc: Global, out: &mut Vec<u8>, body: &Body) -> Result<(), AllocError>
     ensures ok { OnOk result (out.new.items ≡ out.old.items ++ compact_text (data_of body.now)) }
     ensures sound { OnOk result (IsSound (data_of body.now)) }
     ensures err { OnErr result (out.new.items ≡ out.old.items) }
 {
-    match body {
-        Body::Initialize { capabilities } => append_offers(alloc, out, capabilities),
-        _ => append_parts(alloc, out, body),
-    }
+    append_object(alloc, out, body)
 }
 
 impl Body {

@@ -13,6 +13,7 @@ mod failure;
 mod fault;
 mod key;
 pub mod laws;
+mod offers;
 mod response;
 mod row;
 pub mod view;

@@ -6,6 +6,12 @@ use Rattle.dap_debuggee.specs.declared.answers.Category.{Category}
 use Rattle.dap_debuggee.specs.declared.answers.Category.TheVariants.{Console, Important, Stdout, Stderr, Telemetry}
 use Rattle.dap_debuggee.specs.declared.answers.Variable.{Variable}
 use Rattle.dap_envelope.specs.declared.message.Message.{Message}
+use Rattle.dap_command.specs.Offer.{offer_in}
+use Rattle.dap_command.specs.declared.offer.Offer.{Offer}
+use Rattle.dap_command.specs.declared.offer.OfferFault.{OfferFault}
+use Rattle.dap_command.specs.declared.offer.OfferFault.TheVariants.{NotObject}
+use Rattle.dap_frame.specs.Settings.{Settings}
+use Rattle.dap_plan.specs.Session.{Session, opened_session, offers_fit}
 use Rattle.serde_json.specs.Data.{Data}
 use Rattle.dap_recording.specs.declared.recording.RecordedSource.{RecordedSource}
 use Rattle.dap_recording.specs.Reading.{file_sources, read_moment}
@@ -146,9 +152,28 @@ IsCodeOfRecording code = (code ≡ 107) ⊎ (code ≡ 104)
 abbrev pub IsCodeOfText : ℕ → Type 0
 IsCodeOfText code = (code ≡ 103) ⊎ IsCodeOfRecording code
 
+-- what JSON offers
+abbrev pub offered_by : Option Data → Result Offer OfferFault
+offered_by None = Err NotObject
+offered_by (Some d) = offer_in d
+
+-- an adapter that offers what JSON says, to which nothing came
+pub record IsOpenedWith (limits : Settings) (json : Option Data) (session : Session) : Type 0 where
+  pub offers : Offer
+  pub read : offered_by json ≡ Ok offers
+  pub is : session ≡ opened_session limits offers
+
+-- it says what can't be offered, or what does not fit
+abbrev pub OffersNothing : Settings → Option Data → Type 0
+OffersNothing limits json = (offers : Offer) → offered_by json ≡ Ok offers → offers_fit limits offers ≡ false
+
 -- the same, or limits that are out of their ranges
 abbrev pub IsCodeOfOpen : ℕ → Type 0
 IsCodeOfOpen code = (code ≡ 101) ⊎ IsCodeOfRecording code
+
+-- the same, or an offer that is none
+abbrev pub IsCodeOfOpenWith : ℕ → Type 0
+IsCodeOfOpenWith code = (code ≡ 103) ⊎ IsCodeOfOpen code
 
 -- what the host says could not be read, and the adapter is as it was
 pub record IsUntold (old new : HeldAdapter) (code : ℕ) : Type 0 where

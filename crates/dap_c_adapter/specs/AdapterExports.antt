@@ -18,7 +18,7 @@ use Rattle.dap_c_parts.specs.declared.found.YtFound.{YtFound}
 use Rattle.dap_c_parts.specs.declared.limits.YtLimits.{YtLimits}
 use Rattle.dap_c_adapter.specs.Acts.{IsActFound}
 use Rattle.dap_c_adapter.specs.AdapterBehind.{FromTo}
-use Rattle.dap_c_adapter.specs.AdapterCalls.{IsOpenedOver, AdapterTakes, RefusesAdapterPiece, IsAdapterAsBefore, AdapterTurns, RefusesTurn, Tells, IsStop, moment_over, AreSources, IsCodeOfText, category_of, variable_told, variable_with, acts_due}
+use Rattle.dap_c_adapter.specs.AdapterCalls.{IsOpenedOver, IsOpenedWith, AdapterTakes, RefusesAdapterPiece, IsAdapterAsBefore, AdapterTurns, RefusesTurn, Tells, IsStop, moment_over, AreSources, IsCodeOfText, category_of, variable_told, variable_with, acts_due}
 use Rattle.dap_c_adapter.specs.Beside.{CanBeSaid, said_by}
 use Rattle.dap_c_adapter.specs.AdapterFaults.{adapter_number, IsAdapterFaultFound}
 use Rattle.dap_c_adapter.specs.AdapterSeen.{IsAdapterState, IsTarget}
@@ -33,6 +33,10 @@ use Rattle.dap_c_adapter.specs.declared.held_adapter.HeldAdapter.{HeldAdapter}
 -- an adapter within these limits, to which nothing came
 abbrev pub IsFreshWithin : YtLimits → HeldAdapter → Type 0
 IsFreshWithin limits h = h.adapter.session ≡ fresh_session (settings_of limits)
+
+-- the same, which offers what these bytes say
+abbrev pub IsFreshOffering : YtLimits → List ℕ → HeldAdapter → Type 0
+IsFreshOffering limits offers h = IsOpenedWith (settings_of limits) (json_of offers) h.adapter.session
 
 -- over the sources of a file
 abbrev pub OpensOver : List ℕ → HeldAdapter → Type 0

@@ -3,33 +3,34 @@
 //! Bytes of a client come in; answers and events to be written go out. What an adapter is and does is in `dap_adapter`, and
 //! what the debuggee shows in `dap_live`; each export has the clauses of its function there. Only the adapter behind the
 //! handle and what the caller lends for an answer are touched.
-ghost use Rattle.std.specs.Prelude.{◌≡◌, ◌⊎◌, ◌<◌, ◌≤◌, ◌++◌, [], length, drop, take, IfOk, IfErr, OnOk, OnErr, IfSome, IsSome, Some, None, true, false, is_some, vec_len, vec_capacity, if◌then◌else◌, ◌+◌, ◌≢◌};
+ghost use Rattle.std.specs.Prelude.{◌≡◌, ◌⊎◌, ◌<◌, ◌≤◌, ◌++◌, [], length, drop, take, IfOk, IfErr, OnOk, OnErr, IfSome, IsSome, Some, None, Ok, true, false, is_some, vec_len, vec_capacity, if◌then◌else◌, ◌+◌, ◌≢◌};
 ghost use Rattle.dap_frame.specs.Settings.{first_outside};
 ghost use Rattle.dap_decision.specs.Table.{is_phase};
 ghost use Rattle.dap_decision.specs.declared.phase.Phase.TheVariants.{Asked};
 ghost use Rattle.dap_json.specs.Read.{json_of};
-ghost use Rattle.dap_plan.specs.Session.{fresh_session, oldest};
+ghost use Rattle.dap_plan.specs.Session.{fresh_session, offers_fit, oldest};
 ghost use Rattle.dap_plan.specs.declared.fault.AdapterFault.{AdapterFault as TheFault};
 ghost use Rattle.dap_adapter.specs.StandsFor.{StandsFor};
 ghost use Rattle.dap_live.specs.LiveShown.{fresh_live};
-ghost use Rattle.dap_c_adapter.specs.AdapterCalls.{AdapterTakes, RefusesAdapterPiece, IsAdapterAsBefore, AdapterTurns, RefusesTurn, frame_so_far, IsCodeOfOpen, IsOpenedOver, HasNoSources, HasNothing, KeepsActs};
+ghost use Rattle.dap_c_adapter.specs.AdapterCalls.{AdapterTakes, RefusesAdapterPiece, IsAdapterAsBefore, AdapterTurns, RefusesTurn, frame_so_far, IsCodeOfOpen, IsCodeOfOpenWith, IsOpenedOver, IsOpenedWith, OffersNothing, offered_by, HasNoSources, HasNothing, KeepsActs};
 ghost use Rattle.dap_c_adapter.specs.AdapterFaults.{adapter_number, IsAdapterFaultFound};
 ghost use Rattle.dap_c_parts.specs.Finds.{FindsNothing};
 ghost use Rattle.dap_c_parts.specs.Limited.{settings_of, AreOutOfRange};
 ghost use Rattle.dap_c_parts.specs.Buffer.{StaysIfSmall};
 ghost use Rattle.dap_c_adapter.specs.AdapterBehind.{IsFull, IsEmpty, IfFull, FromTo, FromEmpty};
-ghost use Rattle.dap_c_adapter.specs.AdapterExports.{IsFreshWithin, OpensOver, KeepsAdapter, KeepsLimits, KeepsTables, KeepsFrame, LeavesBytes, TakesPiece, RefusesPiece, LeavesDebuggee, LeavesUnasked, LeavesNothing, LatchesFault, MakesTurn, StaysOpen, MakesNoTurn, WritesNothing, IdlesIfNoneWaits, LatchesAndTells, PutsBytes, PutsFrame, HasNoFrame};
+ghost use Rattle.dap_c_adapter.specs.AdapterExports.{IsFreshWithin, IsFreshOffering, OpensOver, KeepsAdapter, KeepsLimits, KeepsTables, KeepsFrame, LeavesBytes, TakesPiece, RefusesPiece, LeavesDebuggee, LeavesUnasked, LeavesNothing, LatchesFault, MakesTurn, StaysOpen, MakesNoTurn, WritesNothing, IdlesIfNoneWaits, LatchesAndTells, PutsBytes, PutsFrame, HasNoFrame};
 
 use crate::adapter_handle::YtAdapter;
 use crate::held_adapter::HeldAdapter;
 use crate::telling::sources_given;
-use dap_adapter::{Adapter, AdapterFault, Taken, Turned};
+use dap_adapter::{Adapter, AdapterFault, Offer, OfferFault, Taken, Turned, offers_fit};
 use dap_c_parts::causes::{body_cause, cause_of};
 use dap_c_parts::codes::*;
 use dap_c_parts::copying::put;
 use dap_c_parts::found::{YtFound, fault_at, nothing_found};
 use dap_c_parts::limits::{self, YtLimits};
 use dap_frame::Limits;
+use dap_json::ParseFault;
 use dap_live::Live;
 use dap_recording::Sources;
 use dap_slot::{handle_of, take_out};
@@ -68,6 +69,57 @@ fn opened(alloc: Global, limits: &YtLimits, base: &[u8]) -> Result<Box<HeldAdapt
         return Err(YT_NO_MEMORY);
     };
     boxed(alloc, adapter)
+}
+
+/// What JSON offers, which fits.
+fn offers_given(alloc: Global, limits: Limits, given: &[u8]) -> Result<Offer, u32>
+    ensures read { IfOk result (λ offers. offered_by (json_of given.now) ≡ Ok offers) }
+    ensures fit { IfOk result (λ offers. offers_fit limits offers ≡ true) }
+    ensures refused { IfErr result (λ code. code ≡ YT_BAD_ARGUMENTS → OffersNothing limits (json_of given.now)) }
+    ensures code { IfErr result (λ code. (code ≡ YT_BAD_ARGUMENTS) ⊎ (code ≡ YT_NO_MEMORY)) }
+{
+    let given = match dap_json::parse(alloc, given) {
+        Ok(given) => given,
+        Err(ParseFault::NotJson) => return Err(YT_BAD_ARGUMENTS),
+        Err(ParseFault::OutOfMemory) => return Err(YT_NO_MEMORY),
+    };
+    let offers = match Offer::read(alloc, &given) {
+        Ok(offers) => offers,
+        Err(OfferFault::OutOfMemory) => return Err(YT_NO_MEMORY),
+        Err(_) => return Err(YT_BAD_ARGUMENTS),
+    };
+    match offers_fit(alloc, limits, &offers) {
+        Ok(true) => Ok(offers),
+        Ok(false) => Err(YT_BAD_ARGUMENTS),
+        Err(_) => Err(YT_NO_MEMORY),
+    }
+}
+
+fn opened_with(
+    alloc: Global,
+    limits: &YtLimits,
+    base: &[u8],
+    offers: &[u8],
+) -> Result<Box<HeldAdapter>, u32>
+    ensures session { IfOk result (λ b. IsOpenedWith (settings_of limits.now) (json_of offers.now) b.value.adapter.session) }
+    ensures fault { IfOk result (λ b. b.value.adapter.fault ≡ None) }
+    ensures debuggee { IfOk result (λ b. IsOpenedOver (json_of base.now) b.value.adapter.debuggee) }
+    ensures stands { IfOk result (λ b. StandsFor b.value.adapter [] []) }
+    ensures nothing { IfOk result (λ b. HasNothing b.value) }
+    ensures refused { IfErr result (λ code. code ≡ YT_BAD_LIMITS → IsSome (first_outside (settings_of limits.now))) }
+    ensures no_recording { IfErr result (λ code. code ≡ YT_BAD_RECORDING → HasNoSources (json_of base.now)) }
+    ensures no_offer { IfErr result (λ code. code ≡ YT_BAD_ARGUMENTS → OffersNothing (settings_of limits.now) (json_of offers.now)) }
+    ensures code { IfErr result IsCodeOfOpenWith }
+{
+    let Ok(limits) = limits::read(limits) else {
+        return Err(YT_BAD_LIMITS);
+    };
+    let sources = sources_given(alloc, base)?;
+    let offers = offers_given(alloc, limits, offers)?;
+    match Adapter::open_with(alloc, limits, Live::open(alloc, sources), offers) {
+        Ok(adapter) => boxed(alloc, adapter),
+        Err(_) => Err(YT_NO_MEMORY),
+    }
 }
 
 fn boxed(alloc: Global, adapter: Adapter<Live>) -> Result<Box<HeldAdapter>, u32>
@@ -115,6 +167,39 @@ pub extern "C" fn yt_adapter_open(
 {
     take_out(alloc, adapter);
     match opened(alloc, limits, base) {
+        Ok(held) => {
+            *adapter = handle_of(held);
+            YT_OK
+        }
+        Err(code) => code,
+    }
+}
+
+/// Opens an adapter as `yt_adapter_open` does, which offers what a JSON object says: flags of what is served that are taken back,
+/// and what else the debugger understands (docs/PROFILE.md, "What is offered"). `YT_BAD_ARGUMENTS` where that is no object, or says
+/// what can't be offered, or is longer than the limit on bodies less 512 bytes.
+#[unsafe(no_mangle)]
+pub extern "C" fn yt_adapter_open_with(
+    alloc: Global,
+    adapter: &mut YtAdapter,
+    limits: &YtLimits,
+    base: &[u8],
+    offers: &[u8],
+) -> u32
+    ensures open { result ≡ YT_OK → IsFull adapter.new }
+    ensures closed { result ≢ YT_OK → IsEmpty adapter.new }
+    ensures session { IfFull adapter.new (IsFreshOffering limits.now offers.now) }
+    ensures fault { IfFull adapter.new (λ a. a.adapter.fault ≡ None) }
+    ensures debuggee { IfFull adapter.new (OpensOver base.now) }
+    ensures stands { IfFull adapter.new (λ a. StandsFor a.adapter [] []) }
+    ensures nothing { IfFull adapter.new HasNothing }
+    ensures refused { result ≡ YT_BAD_LIMITS → AreOutOfRange limits.now }
+    ensures no_recording { result ≡ YT_BAD_RECORDING → HasNoSources (json_of base.now) }
+    ensures no_offer { result ≡ YT_BAD_ARGUMENTS → OffersNothing (settings_of limits.now) (json_of offers.now) }
+    ensures codes { result ≢ YT_OK → IsCodeOfOpenWith result }
+{
+    take_out(alloc, adapter);
+    match opened_with(alloc, limits, base, offers) {
         Ok(held) => {
             *adapter = handle_of(held);
             YT_OK

@@ -4,3 +4,5 @@ mod GivenExamples
 mod KeyExamples
 mod ObjectsExamples
 pub mod GatheredLemmas
+pub mod OfferLemmas
+pub mod OfferExamples

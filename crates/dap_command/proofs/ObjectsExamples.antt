@@ -1,5 +1,5 @@
 -- Worked examples of what commands name and give, each shown by computation.
-use Rattle.std.proofs.Common.{◌≡◌, [], ◌∷◌, codes, true, false, Some, None, refl}
+use Rattle.std.proofs.Common.{◌≡◌, [], ◌∷◌, codes, false, Some, None, refl}
 use Rattle.std.specs.Prelude.{map, filter}
 use Rattle.dap_command.specs.Command.{name_of, all_commands}
 use Rattle.dap_command.specs.Objects.{named_object, given_objects, has_body, names_frame, names_holder, commands_that_name, key_of, member_of, number_key_of, least_of, are_frames}

@@ -1,5 +1,6 @@
 pub mod Command
 pub mod Capabilities
+pub mod Offer
 pub mod Objects
 pub mod GivenReferences
 pub mod Gathered

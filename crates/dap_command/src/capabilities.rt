@@ -37,7 +37,7 @@ fn flag(body: Option<&Value>, gate: Gate) -> bool
     }
 }
 
-fn updated(object: &Value, gate: Gate, before: bool) -> bool
+pub(crate) fn updated(object: &Value, gate: Gate, before: bool) -> bool
     ensures { result ≡ updated_flag gate (view object.now) before }
 {
     match object.get(gate.flag()) {

@@ -13,6 +13,7 @@ mod gathering;
 mod given_references;
 mod key;
 mod objects;
+mod offer;
 mod source_key;
 
 pub use capabilities::Capabilities;
@@ -21,4 +22,5 @@ pub use gathering::GatheredReferences;
 pub use given_references::{NumbersGiven, frames_given, holders_given};
 pub use key::Key;
 pub use objects::{GivenObjects, NamedObject};
+pub use offer::{Offer, OfferFault};
 pub use source_key::SourceKey;

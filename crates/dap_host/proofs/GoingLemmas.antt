@@ -17,7 +17,8 @@ use Rattle.dap_envelope.specs.declared.message.Message.{Message}
 use Rattle.dap_outbox.specs.Draft.{bytes_of}
 use Rattle.dap_recording.specs.declared.recording.RecordedSource.{RecordedSource}
 use Rattle.dap_plan.specs.Polling.{has_debuggee}
-use Rattle.dap_plan.specs.Session.{Session, fresh_session}
+use Rattle.dap_command.specs.declared.offer.Offer.{Offer}
+use Rattle.dap_plan.specs.Session.{Session, opened_session}
 use Rattle.dap_plan.specs.declared.fault.AdapterFault.{AdapterFault}
 use Rattle.dap_host.specs.Fed.{AnswersFed, TellsFed, over_mail}
 use Rattle.dap_host.specs.Hearing.{HostState, sources_there, IsGoing, SameButAdapter, TakesMessage, AnswersMessage, TellsIt, StopsMessage, StopsTelling, RefusesTold, bad_moment, dropped, IsUnheard, drop_of}
@@ -62,8 +63,8 @@ goes_fetched h k there laws going session limits at fetched =
     goes h k going (ap (λ (a : AdapterState LiveState). a.session.limits) fetched ∙ session) limits now (ap (λ (a : AdapterState LiveState). a.debuggee.mail) fetched)
 
 -- a host to which no line came
-pub fresh_going : (h : HostState) (limits : Settings) (sources : List RecordedSource) → StandsFor h.adapter [] [] → h.adapter.session ≡ fresh_session limits → h.adapter.debuggee ≡ fresh_live sources → h.limits ≡ limits → AreInRange limits → Laws → IsGoing h
-fresh_going h limits sources stands session debuggee same range laws =
+pub fresh_going : (h : HostState) (limits : Settings) (offers : Offer) (sources : List RecordedSource) → StandsFor h.adapter [] [] → h.adapter.session ≡ opened_session limits offers → h.adapter.debuggee ≡ fresh_live sources → h.limits ≡ limits → AreInRange limits → Laws → IsGoing h
+fresh_going h limits offers sources stands session debuggee same range laws =
     let are : h.adapter.session.limits ≡ limits = ap (λ (s : Session). s.limits) session in
     let at = laws.fresh h.adapter (subst AreInRange (sym are) range) stands in
     record { used = at.used; history = at.history; stands = at.stands; none_held = at.none_held; limits_are = are ∙ sym same; fetched = ap (λ (v : LiveState). v.mail) debuggee }

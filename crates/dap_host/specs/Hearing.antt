@@ -26,9 +26,12 @@ use Rattle.dap_envelope.specs.Refusals.{Bad}
 use Rattle.dap_envelope.specs.declared.message.Message.{Message}
 use Rattle.dap_json.specs.Read.{json_of}
 use Rattle.dap_recording.specs.Reading.{IsVerdict, file_sources}
-use Rattle.dap_recording.specs.declared.reading.RecordingFault.{RecordingFault}
+use Rattle.dap_command.specs.declared.offer.Offer.{Offer}
+use Rattle.dap_host.specs.Offers.{file_offers, RefusesOffers}
+use Rattle.dap_host.specs.declared.host.FileFault.{FileFault}
+use Rattle.dap_host.specs.declared.host.FileFault.TheVariants.{Sources, Offers}
 use Rattle.dap_recording.specs.declared.recording.RecordedSource.{RecordedSource}
-use Rattle.dap_plan.specs.Session.{fresh_session}
+use Rattle.dap_plan.specs.Session.{opened_session}
 use Rattle.dap_tables.specs.References.{target_of}
 use Rattle.dap_plan.specs.declared.fault.AdapterFault.{AdapterFault}
 use Rattle.dap_plan.specs.declared.fault.AdapterFault.TheVariants.{OutOfMemory}
@@ -71,15 +74,18 @@ pub record IsFresh (limits : Settings) (longest : ℕ) (bytes : List ℕ) (h : H
   pub sources : List RecordedSource
   pub reads : file_sources (json_of bytes) ≡ Ok sources
   pub stands : StandsFor h.adapter [] []
-  pub session : h.adapter.session ≡ fresh_session limits
+  pub offers : Offer
+  pub offered : file_offers bytes ≡ Ok offers
+  pub session : h.adapter.session ≡ opened_session limits offers
   pub debuggee : h.adapter.debuggee ≡ fresh_live sources
   pub limits_are : h.limits ≡ limits
   pub longest_is : h.longest ≡ longest
   pub number : h.number ≡ 0
 
 -- why a file is refused
-abbrev pub RefusesFile : List ℕ → RecordingFault → Type 0
-RefusesFile bytes fault = IsVerdict (Err fault) (file_sources (json_of bytes))
+abbrev pub RefusesFile : Settings → List ℕ → FileFault → Type 0
+RefusesFile limits bytes (Sources fault) = IsVerdict (Err fault) (file_sources (json_of bytes))
+RefusesFile limits bytes (Offers fault) = RefusesOffers limits (file_offers bytes) fault
 
 -- a line more came
 abbrev pub counted : HostState → HostState

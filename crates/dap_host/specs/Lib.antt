@@ -1,4 +1,5 @@
 pub mod Fed
+pub mod Offers
 pub mod Hearing
 pub mod Fetching
 pub mod PrivateFetching

@@ -11,6 +11,7 @@ ghost use Rattle.dap_host.specs.Hearing.{mark_of, state_of, drop_of};
 use crate::fed::{answer_fed, tell_fed};
 use crate::limits::limits_are_in_range;
 use crate::messages::push_messages;
+use crate::offers::{OffersFault, read_offers};
 use dap_adapter::{Adapter, AdapterFault, Phase, bodies_come_one_by_one};
 use dap_debuggee::State;
 use dap_frame::Limits;
@@ -29,6 +30,25 @@ pub const LONGEST_LINE: usize = 16777218;
 
 /// For so many bytes of moments texts are kept that later ones share.
 const TEXT_BYTES: usize = 1048576;
+
+/// Why a file is none that a host begins with.
+#[derive(Debug, Drop)]
+pub enum FileFault {
+    Sources(RecordingFault),
+    Offers(OffersFault),
+}
+
+impl From<AllocError> for FileFault {
+    ghost use Rattle.std.specs.Prelude.{◌≡◌};
+    ghost use Rattle.dap_host.specs.declared.host.FileFault.{FileFault};
+    ghost use Rattle.dap_recording.specs.declared.reading.RecordingFault.{RecordingFault};
+
+    ghost from_gives = { λ _ fault. fault ≡ FileFault.Sources RecordingFault.OutOfMemory };
+
+    fn from(_: AllocError) -> FileFault {
+        FileFault::Sources(RecordingFault::OutOfMemory)
+    }
+}
 
 /// Where what a line says goes, by its first two bytes.
 #[derive(Clone, Copy)]
@@ -130,17 +150,20 @@ impl Host {
     /// and what else it has is not looked at. A line may have so many bytes as `longest` says; [`LONGEST_LINE`] has room for the
     /// greatest message.
     ///
+    /// What it offers is what stands at `offers` in the same object, as `read_offers` has it.
+    ///
     /// # Errors
-    /// Those of `Sources::of_file`, and `OutOfMemory` where memory is refused to the adapter.
+    /// `Sources` with the faults of `Sources::of_file`, and with `OutOfMemory` where memory is refused to the adapter; `Offers` with
+    /// those of `read_offers`, where the sources are good.
     pub fn open(
         alloc: Global,
         limits: Limits,
         longest: usize,
         bytes: &[u8],
-    ) -> Result<Host, RecordingFault>
+    ) -> Result<Host, FileFault>
         ensures fresh { IfOk result (IsFresh limits longest bytes.now) }
         ensures going { IfOk result IsGoing }
-        ensures refused { IfErr result (RefusesFile bytes.now) }
+        ensures refused { IfErr result (RefusesFile limits bytes.now) }
     {
         // For the proof: no message is under way.
         limits_are_in_range(&limits);
@@ -148,10 +171,14 @@ impl Host {
         let mut texts = Texts::new(alloc, TEXT_BYTES)?;
         let sources = match Sources::of_file(&mut texts, bytes) {
             Ok(sources) => sources,
-            Err(fault) => return Err(fault),
+            Err(fault) => return Err(FileFault::Sources(fault)),
+        };
+        let offers = match read_offers(alloc, limits, bytes) {
+            Ok(offers) => offers,
+            Err(fault) => return Err(FileFault::Offers(fault)),
         };
         let live = Live::open(alloc, sources);
-        let adapter = Adapter::open(alloc, limits, live)?;
+        let adapter = Adapter::open_with(alloc, limits, live, offers)?;
         Ok(Host {
             adapter,
             texts,

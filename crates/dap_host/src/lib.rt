@@ -12,7 +12,9 @@ mod host;
 mod hosting;
 mod limits;
 mod messages;
+mod offers;
 
 pub use dap_line::{HostKey, Refusal};
-pub use host::{Host, LONGEST_LINE};
+pub use host::{FileFault, Host, LONGEST_LINE};
 pub use hosting::host_channel;
+pub use offers::{OffersFault, read_offers};

@@ -3,16 +3,18 @@ use Rattle.std.proofs.Common.{[], ◌≡◌, length, replicate, codes, true, fal
 use Rattle.std.specs.Fmt.{digits}
 use Rattle.json.specs.Print.{escape_byte}
 use Rattle.dap_json.specs.Field.{max_seq}
-use Rattle.dap_command.specs.Capabilities.{capabilities_of, capabilities_data}
+use Rattle.dap_command.specs.Capabilities.{capabilities_of}
 use Rattle.dap_command.specs.declared.capabilities.Capabilities.{Capabilities}
 use Rattle.dap_command.specs.declared.key.Key.TheVariants.{SupportsRunInTerminalRequest}
 use Rattle.dap_body.specs.declared.failure.Failure.TheVariants.{NotInitialized, Unsupported, BadArguments, Cancelled}
 use Rattle.dap_envelope.specs.Canon.{tree_of, canon, response_members, event_members}
 use Rattle.dap_message.specs.MessageParts.{failure_response, explained_response, success_response, event_message, initialized, output, stopped, continued, exited, event_name, event_body}
-use Rattle.dap_message.specs.Lengths.{is_exit_code, IsWithin}
+use Rattle.dap_message.specs.Lengths.{is_exit_code, IsWithin, offer_fits}
+use Rattle.dap_command.specs.Offer.{usual_offer}
+use Rattle.serde_json.specs.Written.{compact_text}
 use Rattle.dap_body.specs.Failure.{failure_body}
 use Rattle.dap_body.specs.PlainBodies.{IsPlain}
-use Rattle.dap_body.specs.ResponseBody.{continue_body, set_variable_body}
+use Rattle.dap_body.specs.ResponseBody.{initialize_body, offer_body, continue_body, set_variable_body}
 use Rattle.dap_envelope.specs.Plain.{is_plain}
 
 -- ---- what an adapter writes of a fixed shape
@@ -51,7 +53,7 @@ a_value_was_set = refl
 abbrev every_flag : Capabilities
 every_flag = capabilities_of (λ gate. true)
 
-longest_response : length (canon (success_response max_seq max_seq (replicate 64 1) (Some (capabilities_data every_flag)))) ≡ 889
+longest_response : length (canon (success_response max_seq max_seq (replicate 64 1) (Some (initialize_body every_flag [])))) ≡ 889
 unfolding canon tree_of response_members escape_byte digits
 longest_response = refl
 
@@ -86,8 +88,23 @@ failure_is_plain = (refl, refl)
 long_command_is_not_plain : is_plain (failure_response 3 2 (replicate 65 97) Cancelled) ≡ false
 long_command_is_not_plain = refl
 
-capabilities_are_plain : is_plain (success_response 1 1 (codes "initialize") (Some (capabilities_data every_flag))) ≡ true
+capabilities_are_plain : is_plain (success_response 1 1 (codes "initialize") (Some (initialize_body every_flag []))) ≡ true
 capabilities_are_plain = refl
 
 event_is_plain : is_plain (event_message 5 (event_name (exited (negsuc 0))) (event_body (exited (negsuc 0)))) ≡ true
 event_is_plain = refl
+
+-- ---- what is offered
+
+-- with what is around, 701 bytes
+usual_length : length (compact_text (offer_body usual_offer)) ≡ 189
+unfolding escape_byte
+usual_length = refl
+
+usually_offered : compact_text (offer_body usual_offer) ≡ codes "{\"supportsCancelRequest\":true,\"supportsConfigurationDoneRequest\":true,\"supportsLoadedSourcesRequest\":true,\"supportsSetVariable\":true,\"supportsStepBack\":true,\"supportsTerminateRequest\":true}"
+unfolding escape_byte
+usually_offered = refl
+
+room_for_it : (offer_fits 701 usual_offer ≡ true) × (offer_fits 700 usual_offer ≡ false)
+unfolding escape_byte
+room_for_it = (refl, refl)

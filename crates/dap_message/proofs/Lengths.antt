@@ -1,6 +1,6 @@
 -- What an adapter writes of a fixed shape has 1024 bytes at most.
 use Rattle.std.proofs.Common.{◌≡◌, ℕ, suc, ◌+◌, ◌≤◌, ◌&&◌, ℤ, pos, negsuc, List, length, Bool, true, false, nat_le, IsTrue, Option, Some, None, decimal, sym, true≢false, arith}
-use Rattle.std.proofs.lemmas.Bool.{leb-true, and_parts}
+use Rattle.std.proofs.lemmas.Bool.{leb-true, le-leb, and_parts}
 use Rattle.std.proofs.lemmas.Fmt.{length-decimal-le}
 use Rattle.std.specs.Fmt.{digits}
 use Rattle.json.specs.Token as token
@@ -10,27 +10,24 @@ use Rattle.serde_json.specs.Find.{of_integer}
 use Rattle.serde_json.specs.Written.{number_text}
 use Rattle.dap_json.specs.Field.{max_seq}
 use Rattle.dap_command.specs.Numbers.{is_int}
-use Rattle.dap_command.specs.Capabilities.{capabilities_data, with_flag}
-use Rattle.dap_command.specs.Command.{flag_of}
-use Rattle.dap_command.specs.declared.capabilities.Capabilities.{Capabilities}
-use Rattle.dap_command.specs.declared.command.Gate.{Gate}
-use Rattle.dap_command.specs.declared.command.Gate.TheVariants as gate
 use Rattle.dap_command.specs.declared.key.Key.{Key}
 use Rattle.dap_command.specs.declared.key.Key.TheVariants as key
 use Rattle.dap_body.specs.Failure.{row_of, bad_argument_format, failure_body}
 use Rattle.dap_command.specs.Numbers.{is_number, is_none_or}
 use Rattle.dap_body.specs.Body.{data_in}
-use Rattle.dap_body.specs.ResponseBody.{run_in_terminal_body}
+use Rattle.dap_body.specs.ResponseBody.{offer_body, run_in_terminal_body}
+use Rattle.dap_command.specs.Offer.{usual_offer}
+use Rattle.serde_json.specs.Written.{compact_text}
 use Rattle.dap_body.specs.declared.body.Body.{Body}
-use Rattle.dap_body.specs.declared.body.Body.TheVariants.{Initialize, Continue, RunInTerminal}
+use Rattle.dap_body.specs.declared.body.Body.TheVariants.{Continue, RunInTerminal}
 use Rattle.dap_body.specs.declared.failure.Failure.{Failure}
 use Rattle.dap_body.specs.declared.failure.Failure.TheVariants.{NotInitialized, BadArguments}
 use Rattle.dap_envelope.specs.Canon.{canon, tree_of, members_of, response_members, event_members}
 use Rattle.dap_message.specs.MessageParts.{failure_response, success_response, event_message, has_fixed_shape, AdapterEvent, initialized, output, stopped, continued, exited, terminated, event_name, event_body, without_more}
-use Rattle.dap_message.specs.Lengths.{is_exit_code, IsWithin, FailuresAreShort, FixedResponsesAreShort, EventsAreShort}
+use Rattle.dap_message.specs.Lengths.{is_exit_code, IsWithin, FailuresAreShort, FixedResponsesAreShort, EventsAreShort, WhatIsAroundIsShort, TheUsualOfferFits}
 use Rattle.dap_envelope.specs.Refusals.{max_command}
 use Rattle.dap_envelope.specs.declared.message.Message.{Message}
-use Rattle.dap_message.proofs.Sizes.{quoted_le, size, members_size, length-compact_text, put_size}
+use Rattle.dap_message.proofs.Sizes.{quoted_le, size, length-compact_text}
 
 length-canon : (m : Message) → length (canon m) ≡ size (object (members_of m.seq m.kind))
 unfolding canon tree_of
@@ -104,38 +101,6 @@ failures_are_short seq r c f s q h =
 
 -- ---- responses
 
-flag_size : (g : Gate) (on : Bool) (ms : Members) → members_size false (with_flag g on ms) ≤ members_size false ms + (length (quoted (flag_of g)) + 6)
-flag_size g true ms = omega (arith, put_size false (flag_of g) (boolean true) ms)
-flag_size g false ms = omega arith
-
-capabilities_size : (c : Capabilities) → size (capabilities_data c) ≤ 400
-unfolding escape_byte
-capabilities_size c =
-    let m1 = with_flag gate.BreakpointLocations c.breakpoint_locations no_members in
-    let m2 = with_flag gate.Cancel c.cancel m1 in
-    let m3 = with_flag gate.Completions c.completions m2 in
-    let m4 = with_flag gate.ConfigurationDone c.configuration_done m3 in
-    let m5 = with_flag gate.ExceptionInfo c.exception_info m4 in
-    let m6 = with_flag gate.FunctionBreakpoints c.function_breakpoints m5 in
-    let m7 = with_flag gate.LoadedSources c.loaded_sources m6 in
-    let m8 = with_flag gate.Modules c.modules m7 in
-    let m9 = with_flag gate.Restart c.restart m8 in
-    let m10 = with_flag gate.SetVariable c.set_variable m9 in
-    let m11 = with_flag gate.StepBack c.step_back m10 in
-    let s1 = flag_size gate.BreakpointLocations c.breakpoint_locations no_members in
-    let s2 = flag_size gate.Cancel c.cancel m1 in
-    let s3 = flag_size gate.Completions c.completions m2 in
-    let s4 = flag_size gate.ConfigurationDone c.configuration_done m3 in
-    let s5 = flag_size gate.ExceptionInfo c.exception_info m4 in
-    let s6 = flag_size gate.FunctionBreakpoints c.function_breakpoints m5 in
-    let s7 = flag_size gate.LoadedSources c.loaded_sources m6 in
-    let s8 = flag_size gate.Modules c.modules m7 in
-    let s9 = flag_size gate.Restart c.restart m8 in
-    let s10 = flag_size gate.SetVariable c.set_variable m9 in
-    let s11 = flag_size gate.StepBack c.step_back m10 in
-    let s12 = flag_size gate.Terminate c.terminate m11 in
-    omega arith
-
 -- one process or two
 number_size : (n : ℕ) → is_number n ≡ true → length (decimal n) ≤ 16
 number_size n h = let small : n ≤ 2147483647 = leb-true n 2147483647 h in seq_size n (omega arith)
@@ -150,13 +115,24 @@ processes_size (Some m) (Some n) h = let both = and_parts (is_number m) (is_numb
 fixed_size : (b : Option Body) → has_fixed_shape b ≡ true → body_size (data_in b) ≤ 410
 unfolding escape_byte
 fixed_size None h = omega arith
-fixed_size (Some (Initialize c)) h = omega (arith, capabilities_size c)
 fixed_size (Some Continue) h = omega arith
 fixed_size (Some (RunInTerminal process shell)) h = omega (arith, processes_size process shell h)
 fixed_size (Some _) h = absurd (true≢false (sym h))
 
 pub fixed_responses_are_short : FixedResponsesAreShort
 fixed_responses_are_short seq r c b f s q h = omega (arith, length-canon (success_response seq r c (data_in b)), response_size seq r true c None (data_in b) s q h, fixed_size b f)
+
+-- ---- any body
+
+pub what_is_around_is_short : WhatIsAroundIsShort
+what_is_around_is_short seq r c body s q h = omega (arith, length-canon (success_response seq r c (Some body)), response_size seq r true c None (Some body) s q h, length-compact_text body)
+
+usual_size : length (compact_text (offer_body usual_offer)) ≤ 512
+unfolding escape_byte
+usual_size = omega arith
+
+pub the_usual_offer_fits : TheUsualOfferFits
+the_usual_offer_fits most room = le-leb (length (compact_text (offer_body usual_offer)) + 512) most (omega (arith, usual_size))
 
 -- ---- events
 

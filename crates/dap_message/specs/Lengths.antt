@@ -1,10 +1,17 @@
 -- How long what is written can become, where its shape is fixed: each failure, each event, and each response whose body is none or one of a fixed shape.
 -- Specification, "ErrorResponse", "InitializeResponse", "ContinueResponse", "RunInTerminalResponse" and "Events". The limits, and that 1024 bytes are enough, are this profile's choice.
-use Rattle.std.specs.Prelude.{ℕ, ◌≤◌, ◌&&◌, ℤ, pos, negsuc, int_le, nat_le, List, [], length, Bool, Option, IsTrue, ⊤, if◌then◌else◌}
+-- How long what is written can become, where its shape is fixed: each failure, each event, and each response whose body is none or one of a fixed shape; and how long what is around any other body.
+-- Specification, "ErrorResponse", "ContinueResponse", "RunInTerminalResponse" and "Events". The limits, and that 1024 bytes are enough, are this profile's choice.
+use Rattle.std.specs.Prelude.{ℕ, ◌≤◌, ◌&&◌, ℤ, pos, negsuc, int_le, nat_le, List, [], length, Bool, Option, IsTrue, ⊤, if◌then◌else◌, ◌+◌, Some}
+use Rattle.serde_json.specs.Data.{Data}
+use Rattle.serde_json.specs.Written.{compact_text}
 use Rattle.dap_json.specs.Field.{max_seq}
 use Rattle.dap_json.specs.declared.more.Member.{Member}
 use Rattle.dap_command.specs.Numbers.{is_int}
+use Rattle.dap_command.specs.Offer.{usual_offer}
+use Rattle.dap_command.specs.declared.offer.Offer.{Offer}
 use Rattle.dap_body.specs.Body.{data_in}
+use Rattle.dap_body.specs.ResponseBody.{offer_body}
 use Rattle.dap_body.specs.declared.body.Body.{Body}
 use Rattle.dap_body.specs.declared.failure.Failure.{Failure}
 use Rattle.dap_message.specs.MessageParts.{failure_response, success_response, event_message, has_fixed_shape, AdapterEvent, initialized, output, stopped, continued, exited, terminated, event_name, event_body, without_more}
@@ -56,6 +63,23 @@ FailuresAreShort = (seq request_seq : ℕ) (command : List ℕ) (failure : Failu
 abbrev pub FixedResponsesAreShort : Type 0
 FixedResponsesAreShort = (seq request_seq : ℕ) (command : List ℕ) (body : Option Body) → IsTrue (has_fixed_shape body) → seq ≤ max_seq → request_seq ≤ max_seq → length command ≤ max_command
     → IsShort (success_response seq request_seq command (data_in body))
+
+-- what is around the body of a response has so many bytes at most
+abbrev pub max_around : ℕ
+max_around = 512
+
+abbrev pub WhatIsAroundIsShort : Type 0
+WhatIsAroundIsShort = (seq request_seq : ℕ) (command : List ℕ) (body : Data) → seq ≤ max_seq → request_seq ≤ max_seq → length command ≤ max_command
+    → length (canon (success_response seq request_seq command (Some body))) ≤ length (compact_text body) + max_around
+
+-- ---- what is offered
+
+-- the body has at most so many bytes that a message with it has no more than these, whatever its numbers
+abbrev pub offer_fits : ℕ → Offer → Bool
+offer_fits most offer = nat_le (length (compact_text (offer_body offer)) + max_around) most
+
+abbrev pub TheUsualOfferFits : Type 0
+TheUsualOfferFits = (most : ℕ) → max_fixed ≤ most → IsTrue (offer_fits most usual_offer)
 
 abbrev pub EventsAreShort : Type 0
 EventsAreShort = (seq : ℕ) (event : AdapterEvent) → seq ≤ max_seq → IsWithin event → IsShort (event_message seq (event_name event) (event_body (without_more event)))

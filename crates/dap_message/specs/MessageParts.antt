@@ -1,5 +1,6 @@
 -- Messages by their parts: failures, responses and events, which bodies have a fixed shape, and each event's name and body.
 -- Specification, "ErrorResponse", "InitializeResponse", "ContinueResponse" and "Events".
+-- Specification, "ErrorResponse", "ContinueResponse" and "Events".
 use Rattle.std.specs.Prelude.{ℕ, ℤ, List, [], codes, ◌&&◌, Bool, false, true, Option, Some, None}
 use Rattle.serde_json.specs.Data.{Data}
 use Rattle.dap_json.specs.declared.more.Member.{Member}
@@ -7,7 +8,7 @@ use Rattle.dap_command.specs.Numbers.{is_number, is_none_or}
 use Rattle.dap_body.specs.Failure.{row_of, failure_body, explained_body}
 use Rattle.dap_body.specs.EventBody.{output_body, stopped_body, continued_body, exited_body}
 use Rattle.dap_body.specs.declared.body.Body.{Body}
-use Rattle.dap_body.specs.declared.body.Body.TheVariants.{Initialize, Continue, RunInTerminal}
+use Rattle.dap_body.specs.declared.body.Body.TheVariants.{Continue, RunInTerminal}
 use Rattle.dap_body.specs.declared.failure.Failure.{Failure}
 use Rattle.dap_body.specs.declared.failure.Failure.TheVariants.{Debuggee}
 use Rattle.dap_envelope.specs.declared.message.Message.{Message}
@@ -36,7 +37,6 @@ event_message seq event body = record { seq = seq; kind = Event event body }
 
 abbrev pub has_fixed_shape : Option Body → Bool
 has_fixed_shape None = true
-has_fixed_shape (Some (Initialize capabilities)) = true
 has_fixed_shape (Some Continue) = true
 has_fixed_shape (Some (RunInTerminal process shell)) = is_none_or is_number process && is_none_or is_number shell
 has_fixed_shape _ = false

@@ -35,7 +35,7 @@ const MOST_ROOM: usize = 65536;
 /// The room that a text with this body most often needs, in bytes; one that is longer takes more as it grows.
 fn room_for(body: &Body) -> usize {
     let (count, each) = match body {
-        Body::Initialize { .. } => (12, 32),
+        Body::Initialize { .. } => (12, 48),
         Body::SetBreakpoints { breakpoints } => (breakpoints.len(), 48),
         Body::Threads { threads } => (threads.len(), 64),
         Body::Continue => (1, 32),

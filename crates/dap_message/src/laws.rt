@@ -1,5 +1,5 @@
 //! Laws of the definitions, each on a function with nothing to run.
-ghost use Rattle.dap_message.specs.Lengths.{EventsAreShort, FailuresAreShort, FixedResponsesAreShort};
+ghost use Rattle.dap_message.specs.Lengths.{EventsAreShort, FailuresAreShort, FixedResponsesAreShort, TheUsualOfferFits, WhatIsAroundIsShort};
 
 pub use dap_body::laws::{bodies_are_plain, bodies_give_their_numbers};
 pub use dap_call::laws::{
@@ -17,4 +17,11 @@ pub fn fixed_messages_are_short()
     ensures failures { FailuresAreShort }
     ensures responses { FixedResponsesAreShort }
     ensures events { EventsAreShort }
+{}
+
+/// What a response has around its body has at most 512 bytes, whatever its numbers and its command; so what is offered usually
+/// fits wherever a body may have 1024.
+pub fn what_is_around_is_short()
+    ensures around { WhatIsAroundIsShort }
+    ensures usual { TheUsualOfferFits }
 {}

@@ -9,6 +9,7 @@
 
 mod answering;
 pub mod laws;
+mod offers;
 
 pub use answering::{
     append_answer, append_event, append_explained, append_failure, append_request,
@@ -32,3 +33,4 @@ pub use dap_envelope::{
 };
 pub use dap_json::object_reader::Scratch;
 pub use dap_json::{List, Text, Tree};
+pub use offers::{body_of_offer, offer_fits};

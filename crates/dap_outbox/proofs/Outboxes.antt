@@ -8,7 +8,7 @@ use Rattle.dap_json.specs.Field.{max_seq}
 use Rattle.dap_frame.specs.Written.{frame_of}
 use Rattle.dap_body.specs.Body.{data_in}
 use Rattle.json.specs.Print.{escape_byte}
-use Rattle.serde_json.specs.Data.{object}
+use Rattle.serde_json.specs.Data.{Data, object}
 use Rattle.std.specs.Fmt.{digits}
 use Rattle.std.proofs.lemmas.Fmt.{length-decimal-le}
 use Rattle.dap_envelope.specs.Canon.{canon, tree_of, members_of, request_members}
@@ -27,7 +27,7 @@ use Rattle.dap_outbox.specs.InRange.{IsRequestInRange, IsDraftInRange}
 use Rattle.dap_outbox.specs.Draft.{Draft, ask, message_of, numbered_messages, bytes_of}
 use Rattle.dap_outbox.specs.Outbox.{OutboxState, AppendsDraft, state_of, shape_of}
 use Rattle.dap_outbox.specs.declared.answer.Fixed.{Fixed}
-use Rattle.dap_outbox.specs.declared.answer.Fixed.TheVariants.{Initialize, Continue}
+use Rattle.dap_outbox.specs.declared.answer.Fixed.TheVariants.{Continue}
 
 numbered_messages-append : (used : ℕ) (ds : List Draft) (d : Draft) → numbered_messages used (ds ++ d ∷ []) ≡ numbered_messages used ds ++ message_of (used + length ds + 1) d ∷ []
 numbered_messages-append used [] d = let e : used + 0 ≡ used = omega arith in rw e refl
@@ -56,13 +56,17 @@ reads-failure short seq r f reads s i = record { fits = short seq r.seq r.comman
 -- a success with a body of a fixed shape
 is-fixed : (fixed : Option Fixed) → has_fixed_shape (shape_of fixed) ≡ true
 is-fixed None = refl
-is-fixed (Some (Initialize capabilities)) = refl
 is-fixed (Some Continue) = refl
 
 pub reads-success : FixedResponsesAreShort → (seq : ℕ) (r : Entry) (fixed : Option Fixed)
     → (seq ≤ max_seq → r.seq ≤ max_seq → length r.command ≤ max_command → Msg (canon (success_response seq r.seq r.command (data_in (shape_of fixed)))) (success_response seq r.seq r.command (data_in (shape_of fixed)))) → seq ≤ max_seq → IsRequestInRange r → ReadsBack max_fixed (success_response seq r.seq r.command (data_in (shape_of fixed)))
 reads-success short seq r fixed reads s i =
     record { fits = short seq r.seq r.command (shape_of fixed) (is-fixed fixed) s i.seq i.command; reads = reads s i.seq i.command }
+
+-- a success of which it is known how long it may become
+pub reads-within : (most seq : ℕ) (r : Entry) (body : Option Data) → (seq ≤ max_seq → IsRequestInRange r → length (canon (success_response seq r.seq r.command body)) ≤ most)
+    → (seq ≤ max_seq → r.seq ≤ max_seq → length r.command ≤ max_command → Msg (canon (success_response seq r.seq r.command body)) (success_response seq r.seq r.command body)) → seq ≤ max_seq → IsRequestInRange r → ReadsBack most (success_response seq r.seq r.command body)
+reads-within most seq r body short reads s i = record { fits = short s i; reads = reads s i.seq i.command }
 
 -- the request for a terminal, which is short too
 ask-short : (seq : ℕ) → seq ≤ max_seq → length (canon (message_of seq ask)) ≤ max_fixed

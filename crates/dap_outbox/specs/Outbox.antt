@@ -15,10 +15,10 @@ use Rattle.dap_tables.specs.declared.entry.Entry.{Entry as Request}
 use Rattle.dap_outbox.specs.declared.answer.Answer.{Answer}
 use Rattle.dap_outbox.specs.declared.answer.Answer.TheVariants.{Success, Failure}
 use Rattle.dap_outbox.specs.declared.answer.Fixed.{Fixed}
-use Rattle.dap_outbox.specs.declared.answer.Fixed.TheVariants.{Initialize, Continue}
+use Rattle.dap_outbox.specs.declared.answer.Fixed.TheVariants.{Continue}
 use Rattle.dap_outbox.specs.declared.answer.Event.{Event}
 use Rattle.dap_outbox.specs.declared.answer.Event.TheVariants.{Initialized, Output, Stopped, Continued, Exited, Terminated}
-use Rattle.dap_outbox.specs.InRange.{AnswersInRange}
+use Rattle.dap_outbox.specs.InRange.{AnswersInRange, IsRequestInRange}
 use Rattle.dap_outbox.specs.Draft.{Answer as AnswerWord, success, failure, explained, Draft, reply, emit, numbered_messages, bytes_of}
 
 -- what the buffer had before, the bytes of the messages behind it, and the own numbers that are left after them
@@ -35,7 +35,6 @@ state_of start items numbers = record { before = take start items; bytes = drop 
 
 abbrev pub shape_of : Option Fixed → Option Body
 shape_of None = None
-shape_of (Some (Initialize capabilities)) = Some (body.Initialize capabilities)
 shape_of (Some Continue) = Some body.Continue
 
 abbrev pub answer_of : Answer → AnswerWord
@@ -80,6 +79,14 @@ AppendsReply old new request answer = AppendsDraft max_fixed old new (reply requ
 -- an event, with what is said beside its own members where that fits
 abbrev pub AppendsEvent : ℕ → OutboxState → OutboxState → Event → Type 0
 AppendsEvent most old new event = AppendsDraft most old new (emit (event_within most (old.numbers.used + 1) (event_of event)))
+
+-- where what is written of this answer has at most so many bytes, a client reads it whose bodies may have as many
+abbrev pub IsAnswerWithin : ℕ → OutboxState → Request → Option Body → Type 0
+IsAnswerWithin most old request given =
+    old.numbers.used + 1 ≤ max_seq → IsRequestInRange request → length (canon (success_response (old.numbers.used + 1) request.seq request.command (data_in given))) ≤ most
+
+abbrev pub AppendsAnswer : OutboxState → OutboxState → Request → Option Body → Type 0
+AppendsAnswer old new request given = (most : ℕ) → IsAnswerWithin most old request given → AppendsDraft most old new (reply request (success (data_in given) []))
 
 -- whether the answer to a request with a body has at most so many bytes
 abbrev pub answer_fits : ℕ → OutboxState → Request → Option Body → Bool

@@ -4,15 +4,12 @@ ghost use Rattle.dap_message.specs.MessageParts.{without_more};
 ghost use Rattle.dap_outbox.specs.Outbox.{event_of};
 
 use dap_body::Failure;
-use dap_command::Capabilities;
 use dap_debuggee::Category;
 use dap_json::{More, Text};
 
 /// A body of a fixed shape.
 #[derive(Clone, Copy, Debug)]
 pub enum Fixed {
-    /// What an adapter offers.
-    Initialize(Capabilities),
     /// All threads go on.
     Continue,
 }

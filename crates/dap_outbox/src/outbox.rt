@@ -1,7 +1,7 @@
 //! A buffer that is lent, with messages of a step behind what it had before.
 ghost use Rattle.std.specs.Prelude.{◌≡◌, ◌+◌, ◌<◌, ◌≤◌, ◌++◌, length, IfOk, OnOk, OnErr, false};
 ghost use Rattle.dap_outbox.specs.Draft.{ask};
-ghost use Rattle.dap_outbox.specs.Outbox.{event_of, IsReady, AppendsDraft, HoldsNone, AppendsReply, AppendsEvent, EmitsIfFits, answer_fits, AnswersIfFits, explanation_fits, ExplainsIfFits};
+ghost use Rattle.dap_outbox.specs.Outbox.{event_of, IsReady, AppendsDraft, HoldsNone, AppendsReply, AppendsEvent, EmitsIfFits, answer_fits, AnswersIfFits, explanation_fits, ExplainsIfFits, AppendsAnswer};
 ghost use Rattle.dap_json.specs.Field.{max_seq};
 ghost use Rattle.dap_message.specs.Lengths.{max_fixed, IsWithin, event_fits};
 
@@ -106,6 +106,27 @@ impl Outbox {
         let (seq, numbers) = self.next();
         let end = self.buffer.len();
         append_reply(alloc, &mut self.buffer, seq, request, &answer)?;
+        frame_from(&mut self.buffer, end)?;
+        self.numbers = numbers;
+        Ok(())
+    }
+
+    /// Answers a request with a body, of which the caller knows how long it may become.
+    pub fn reply_with(
+        &mut self,
+        alloc: Global,
+        request: &Entry,
+        body: Option<Body>,
+    ) -> Result<(), AllocError>
+        requires { self.old.numbers.used < self.old.numbers.last }
+        ensures writes { OnOk result (AppendsAnswer self.old self.new request.now body) }
+        ensures before { self.new.before ≡ self.old.before }
+        ensures err { OnErr result (self.new ≡ self.old) }
+    {
+        let (seq, numbers) = self.next();
+        let end = self.buffer.len();
+        let command = request.command.as_str();
+        append_answer(alloc, &mut self.buffer, seq, request.seq, command, &body)?;
         frame_from(&mut self.buffer, end)?;
         self.numbers = numbers;
         Ok(())

@@ -26,7 +26,6 @@ fn body_of(fixed: Option<Fixed>) -> Option<Body>
 {
     match fixed {
         None => None,
-        Some(Fixed::Initialize(capabilities)) => Some(Body::Initialize { capabilities }),
         Some(Fixed::Continue) => Some(Body::Continue),
     }
 }

@@ -1,8 +1,9 @@
 -- What the bodies of answers that are no queries give: nothing.
 use Rattle.std.proofs.Common.{◌≡◌, ℕ, List, [], Bool, true, false, Option, Some, None, Ok, Err, refl, subst}
 use Rattle.std.specs.Prelude.{if◌then◌else◌}
-use Rattle.dap_command.specs.Capabilities.{capabilities_data}
-use Rattle.dap_body.specs.ResponseBody.{continue_body, set_breakpoints_body, set_variable_body}
+use Rattle.dap_command.specs.Offer.{gates_of}
+use Rattle.dap_command.specs.declared.offer.Offer.{Offer}
+use Rattle.dap_body.specs.ResponseBody.{offer_body, continue_body, set_breakpoints_body, set_variable_body}
 use Rattle.dap_body.specs.declared.response.Breakpoint.{Breakpoint}
 use Rattle.dap_body.proofs.GivenNumbers.{bodies_give_their_numbers}
 use Rattle.dap_json.specs.declared.more.Member.{Member}
@@ -18,14 +19,16 @@ use Rattle.dap_debuggee.specs.declared.answers.How.TheVariants as how
 use Rattle.dap_query.proofs.LiveBodies.{none-in}
 use Rattle.dap_plan.specs.Breakpoints.{are_too_many}
 use Rattle.dap_decision.specs.Failures.{command_of}
-use Rattle.dap_plan.specs.Handling.{adapter_capabilities, Change, ChangeResult, answers_to, lines_change, lines_result, value_change, assigned_result, value_result, resume_body}
+use Rattle.dap_plan.specs.Handling.{Change, ChangeResult, answers_to, lines_change, lines_result, value_change, assigned_result, value_result, resume_body}
 use Rattle.dap_outbox.specs.Draft.{success}
 use Rattle.dap_plan.specs.Session.{Session}
 use Rattle.dap_plan.proofs.Outcomes.{IsBare}
 use Rattle.dap_debuggee.specs.declared.answers.Placement.{Placement}
 
-pub offers-none : (o : Option Command) → references_given_in o (Some (capabilities_data adapter_capabilities)) ≡ []
-offers-none o = none-in o (capabilities_data adapter_capabilities) refl refl refl refl
+pub offers-none : (o : Option Command) (offer : Offer) → references_given_in o (Some (offer_body offer)) ≡ []
+offers-none o offer =
+    let alone = bodies_give_their_numbers.initialize (gates_of offer) offer.more in
+    none-in o (offer_body offer) alone.0 alone.1 alone.2 alone.3
 
 resume-none : (h : How) (o : Option Command) → references_given_in o (resume_body h) ≡ []
 resume-none how.Continue o = none-in o continue_body refl refl refl refl

@@ -67,7 +67,7 @@ walked-all p answer ks d =
 
 pub after_initialize-outcome : (s : Session) (k : Kept) (asked : Call) → asks_none s.phase ≡ true → IsHandled s k → IsOutcome s 2 (after_initialize s k.entry asked)
 after_initialize-outcome s k asked q i =
-    plain-outcome s 2 (after_initialize s k.entry asked) (is-plain s _ refl refl refl) (refl, offers-none (command_of k.entry), (refl, refl, tt)) refl refl (λ (d : HasDistinctSeqs s.kept). replied-and-after_query s.kept k (success (Some _) []) initialized d i.kept) (λ (d : HasDistinctSeqs s.kept). fewer-handled s k d i) (asks-nothing s _ refl tt (none-in s.phase s.asked q))
+    plain-outcome s 2 (after_initialize s k.entry asked) (is-plain s _ refl refl refl) (refl, offers-none (command_of k.entry) s.offers, (refl, refl, tt)) refl refl (λ (d : HasDistinctSeqs s.kept). replied-and-after_query s.kept k (success (Some _) []) initialized d i.kept) (λ (d : HasDistinctSeqs s.kept). fewer-handled s k d i) (asks-nothing s _ refl tt (none-in s.phase s.asked q))
 
 -- ---- launch, attach and configurationDone
 

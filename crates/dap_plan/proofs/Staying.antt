@@ -2,6 +2,7 @@
 use Rattle.std.proofs.Common.{◌≡◌, ◌≤◌, List, [], ◌++◌, Option, Some, None, Ok, length, refl, ap, arith}
 use Rattle.std.proofs.lemmas.List.{append-nil}
 use Rattle.dap_frame.specs.Settings.{Settings}
+use Rattle.dap_command.specs.declared.offer.Offer.{Offer}
 use Rattle.dap_history.specs.History.{Asked, Answered}
 use Rattle.dap_history.specs.Requests.{asks}
 use Rattle.dap_envelope.specs.declared.message.Message.{Message}
@@ -11,7 +12,7 @@ use Rattle.dap_plan.specs.Handling.{turns}
 use Rattle.dap_plan.specs.Laws.{CanMake}
 use Rattle.dap_plan.specs.Plan.{Made, Plan}
 use Rattle.dap_plan.specs.Polling.{polls}
-use Rattle.dap_plan.specs.Session.{Session, IsOrderly, fresh_session}
+use Rattle.dap_plan.specs.Session.{Session, IsOrderly, opened_session}
 use Rattle.dap_plan.specs.Taking.{takes}
 use Rattle.dap_plan.specs.Within.{IsWithin, EachStepStaysWithin}
 use Rattle.dap_plan.proofs.Deliveries.{delivery-is, delivery-exact}
@@ -73,18 +74,21 @@ turn-stays view s plan made i e is =
 poll-stays : (s : Session) (made : Made) → IsWithin s → CanMake (polls s) made → made.after.used ≤ s.limits.seq → IsWithin made.after
 poll-stays s made i is u = let p = poll-is s made is in none-came s made i p.moves p.stays (p.well tt) u
 
-fresh-within : (limits : Settings) → IsWithin (fresh_session limits)
-fresh-within limits = record { distinct = tt; kept = omega arith; asked = refl; used = omega arith; references = omega arith; numbers = omega arith; breakpoints = omega arith; ids = omega arith }
+opened-within : (limits : Settings) (offers : Offer) → IsWithin (opened_session limits offers)
+opened-within limits offers = record { distinct = tt; kept = omega arith; asked = refl; used = omega arith; references = omega arith; numbers = omega arith; breakpoints = omega arith; ids = omega arith }
 
 pub each_step_stays_within : EachStepStaysWithin
 each_step_stays_within = record {
-  fresh = fresh-within;
+  opened = opened-within;
   take = take-stays;
   turn = turn-stays;
   poll = poll-stays;
   take_keeps_limits = λ s m plan made e is. (delivery-is s m plan made e is).sound.moves.limits;
   turn_keeps_limits = λ view s plan made e is. ((turn-is view s plan e).row.outcomes made is).sound.moves.limits;
   poll_keeps_limits = λ s made is. (poll-is s made is).moves.limits;
+  take_keeps_offers = λ s m plan made e is. (delivery-is s m plan made e is).sound.moves.offers;
+  turn_keeps_offers = λ view s plan made e is. ((turn-is view s plan e).row.outcomes made is).sound.moves.offers;
+  poll_keeps_offers = λ s made is. (poll-is s made is).moves.offers;
   due_is_exact = λ view s plan made i e is. ((turn-is view s plan e).row.outcomes made is).count;
   take_due_is_exact = λ s m plan made i e is. delivery-exact s m plan e made is;
 }

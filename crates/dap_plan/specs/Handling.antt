@@ -6,13 +6,11 @@ use Rattle.serde_json.specs.Data.{Data}
 use Rattle.dap_json.specs.Field.{text_at}
 use Rattle.dap_call.specs.Argument.{Read}
 use Rattle.dap_envelope.specs.Canon.{canon}
-use Rattle.dap_command.specs.Capabilities.{capabilities_data}
 use Rattle.dap_message.specs.MessageParts.{initialized, terminated, success_response, explained_response}
-use Rattle.dap_body.specs.ResponseBody.{continue_body, set_breakpoints_body, set_variable_body}
+use Rattle.dap_body.specs.ResponseBody.{continue_body, set_breakpoints_body, set_variable_body, offer_body}
 use Rattle.dap_body.specs.declared.response.Breakpoint.{Breakpoint as BreakpointBody}
 use Rattle.dap_call.specs.declared.call.Call.{Call}
 use Rattle.dap_call.specs.declared.call.Call.TheVariants as call
-use Rattle.dap_command.specs.declared.capabilities.Capabilities.{Capabilities}
 use Rattle.dap_command.specs.declared.command.Command.{Command}
 use Rattle.dap_command.specs.declared.command.Command.TheVariants as command
 use Rattle.dap_body.specs.declared.failure.Failure.{Failure}
@@ -47,30 +45,14 @@ use Rattle.dap_debuggee.specs.declared.answers.Placement.{Placement}
 
 -- ---- initialize
 
--- what this adapter offers
-abbrev pub adapter_capabilities : Capabilities
-adapter_capabilities = record {
-  breakpoint_locations = false;
-  cancel = true;
-  completions = false;
-  configuration_done = true;
-  exception_info = false;
-  function_breakpoints = false;
-  loaded_sources = true;
-  modules = false;
-  restart = false;
-  set_variable = true;
-  step_back = true;
-  terminate = true;
-}
-
 abbrev pub options_of : Call → Options
 options_of (call.Initialize asked) = record { lines_start_at_1 = asked.lines_start_at_1; columns_start_at_1 = asked.columns_start_at_1; supports_variable_paging = asked.supports_variable_paging; supports_run_in_terminal_request = asked.supports_run_in_terminal_request }
 options_of _ = usual_options
 
+-- what this adapter offers
 abbrev pub after_initialize : Session → Entry → Call → Made
 after_initialize s r asked = record {
-  drafts = reply r (success (Some (capabilities_data adapter_capabilities)) []) ∷ emit initialized ∷ [];
+  drafts = reply r (success (Some (offer_body s.offers)) []) ∷ emit initialized ∷ [];
   drops = false;
   after = record s { phase = Ready; options = options_of asked; kept = without r.seq s.kept; used = s.used + 2 };
 }

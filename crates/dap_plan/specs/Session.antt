@@ -1,6 +1,9 @@
 -- The state of a session at the adapter, without the bytes that come and without the debuggee.
 use Rattle.std.specs.Prelude.{◌≡◌, ℕ, ◌==◌, ◌&&◌, not, ⊤, IsTrue, List, [], ◌∷◌, length, filter, find, Bool, false, Option, Some, None, is_some}
 use Rattle.dap_frame.specs.Settings.{Settings}
+use Rattle.dap_command.specs.Offer.{usual_offer}
+use Rattle.dap_command.specs.declared.offer.Offer.{Offer}
+use Rattle.dap_message.specs.Lengths.{offer_fits}
 use Rattle.dap_history.specs.History.{Asked}
 use Rattle.dap_tables.specs.Outstanding.{Kept, unparked_ones, HasDistinctSeqs}
 use Rattle.dap_decision.specs.declared.phase.Phase.{Phase}
@@ -14,6 +17,8 @@ use Rattle.dap_tables.specs.Breakpoints.{SetBreakpoints, no_breakpoints}
 
 pub record Session : Type 0 where
   pub limits : Settings
+  -- what it offers, as who opened it said
+  pub offers : Offer
   pub phase : Phase
   pub options : Options
   -- the requests to answer, by arrival
@@ -25,9 +30,11 @@ pub record Session : Type 0 where
   -- own sequence numbers that were given
   pub used : ℕ
 
-abbrev pub fresh_session : Settings → Session
-fresh_session limits = record {
+-- one that nothing came to, with these offers
+abbrev pub opened_session : Settings → Offer → Session
+opened_session limits offers = record {
   limits = limits;
+  offers = offers;
   phase = Fresh;
   options = usual_options;
   kept = [];
@@ -36,6 +43,14 @@ fresh_session limits = record {
   asked = None;
   used = 0;
 }
+
+-- with all that is served, and no more
+abbrev pub fresh_session : Settings → Session
+fresh_session limits = opened_session limits usual_offer
+
+-- its offers leave room for what is around them in a message
+abbrev pub offers_fit : Settings → Offer → Bool
+offers_fit limits offers = offer_fits limits.body offers
 
 -- what its answers to queries are made with
 abbrev pub query_of : Session → QueryState

@@ -1,6 +1,7 @@
 -- A session with its debuggee, one step of it, and what the three calls are made of.
-use Rattle.std.specs.Prelude.{◌≡◌, ℕ, ◌+◌, ◌≤◌, ◌<◌, ⊤, List, [], ◌∷◌, ◌++◌, length, Bool, true, false, Option, Some, None, Result, Ok, Err}
+use Rattle.std.specs.Prelude.{◌≡◌, ℕ, ◌+◌, ◌≤◌, ◌<◌, ⊤, List, [], ◌∷◌, ◌++◌, length, Bool, true, false, IsTrue, Option, Some, None, Result, Ok, Err}
 use Rattle.dap_frame.specs.Settings.{Settings}
+use Rattle.dap_command.specs.declared.offer.Offer.{Offer}
 use Rattle.dap_tables.specs.Outstanding.{Kept, KeptRequests, IsOrderlyRequests, without}
 use Rattle.dap_tables.specs.Breakpoints.{BreakpointTable}
 use Rattle.dap_tables.specs.Seq.{Numbers}
@@ -15,7 +16,7 @@ use Rattle.dap_outbox.specs.InRange.{AnswersInRange}
 use Rattle.dap_plan.specs.Handling.{plan_for, some_plan, turns}
 use Rattle.dap_plan.specs.Plan.{Made, Plan, at_once, asking, messages_due, plan_within_numbers, after_answering, written_by}
 use Rattle.dap_outbox.specs.Draft.{failure, bytes_of}
-use Rattle.dap_plan.specs.Session.{Session, cancelled_by, not_cancelled_by}
+use Rattle.dap_plan.specs.Session.{Session, offers_fit, cancelled_by, not_cancelled_by}
 use Rattle.dap_envelope.specs.ReadBack.{AllReadBack}
 
 -- a session with its debuggee
@@ -29,13 +30,14 @@ pub record SessionStep {D : Type 0} (follows : Goes D) (plan : Plan) (old new : 
   pub carried : CarriedOut follows plan old.debuggee made new.debuggee
   pub after : new.session ≡ made.after
 
--- what holds of every session: its tables have the limits' room
-pub record IsSession (limits : Settings) (table : KeptRequests) (breakpoints : BreakpointTable) (numbers : Numbers) : Type 0 where
+-- what holds of every session: its tables have the limits' room, and its offers fit
+pub record IsSession (limits : Settings) (offers : Offer) (table : KeptRequests) (breakpoints : BreakpointTable) (numbers : Numbers) : Type 0 where
   pub room : table.room ≡ limits.requests
   pub orderly : IsOrderlyRequests table
   pub set : breakpoints.room ≡ limits.breakpoints
   pub last : numbers.last ≡ limits.seq
   pub used : numbers.used ≤ numbers.last
+  pub fits : IsTrue (offers_fit limits offers)
 
 -- these bytes are the messages of a step; a client with the same limit on bodies reads each of them, where the requests that they answer are in range
 pub record Tells (old : Session) (m : Made) (bytes : List ℕ) : Type 0 where

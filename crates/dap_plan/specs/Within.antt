@@ -1,6 +1,7 @@
 -- What stays true of a session, step by step.
 use Rattle.std.specs.Prelude.{◌≡◌, ◌+◌, ◌≤◌, length, Some, Ok}
 use Rattle.dap_frame.specs.Settings.{Settings}
+use Rattle.dap_command.specs.declared.offer.Offer.{Offer}
 use Rattle.dap_envelope.specs.declared.message.Message.{Message}
 use Rattle.dap_tables.specs.Outstanding.{HasDistinctSeqs}
 use Rattle.dap_debuggee.specs.Shown.{Shown}
@@ -10,7 +11,7 @@ use Rattle.dap_plan.specs.Handling.{turns}
 use Rattle.dap_plan.specs.Laws.{CanMake}
 use Rattle.dap_plan.specs.Plan.{Made, Plan, messages_due}
 use Rattle.dap_plan.specs.Polling.{polls}
-use Rattle.dap_plan.specs.Session.{Session, IsAskedIn, fresh_session}
+use Rattle.dap_plan.specs.Session.{Session, IsAskedIn, opened_session}
 use Rattle.dap_plan.specs.Taking.{takes}
 
 -- a session keeps to its limits
@@ -32,7 +33,7 @@ pub record IsWithin (s : Session) : Type 0 where
   pub ids : s.breakpoints.next_id ≤ max_id + 1
 
 pub record EachStepStaysWithin : Type 0 where
-  pub fresh : (limits : Settings) → IsWithin (fresh_session limits)
+  pub opened : (limits : Settings) (offers : Offer) → IsWithin (opened_session limits offers)
   pub take : (s : Session) (m : Message) (plan : Plan) (made : Made) → IsWithin s → takes m s ≡ Ok plan → CanMake plan made → IsWithin made.after
   pub turn : (view : Shown) (s : Session) (plan : Plan) (made : Made) → IsWithin s → turns view s ≡ Ok (Some plan) → CanMake plan made → IsWithin made.after
   -- where the events of what happened are not too many
@@ -41,6 +42,10 @@ pub record EachStepStaysWithin : Type 0 where
   pub take_keeps_limits : (s : Session) (m : Message) (plan : Plan) (made : Made) → takes m s ≡ Ok plan → CanMake plan made → made.after.limits ≡ s.limits
   pub turn_keeps_limits : (view : Shown) (s : Session) (plan : Plan) (made : Made) → turns view s ≡ Ok (Some plan) → CanMake plan made → made.after.limits ≡ s.limits
   pub poll_keeps_limits : (s : Session) (made : Made) → CanMake (polls s) made → made.after.limits ≡ s.limits
+  -- and so do the offers
+  pub take_keeps_offers : (s : Session) (m : Message) (plan : Plan) (made : Made) → takes m s ≡ Ok plan → CanMake plan made → made.after.offers ≡ s.offers
+  pub turn_keeps_offers : (view : Shown) (s : Session) (plan : Plan) (made : Made) → turns view s ≡ Ok (Some plan) → CanMake plan made → made.after.offers ≡ s.offers
+  pub poll_keeps_offers : (s : Session) (made : Made) → CanMake (polls s) made → made.after.offers ≡ s.offers
   -- a turn takes as many messages as was said before the debuggee was asked
   pub due_is_exact : (view : Shown) (s : Session) (plan : Plan) (made : Made) → IsWithin s → turns view s ≡ Ok (Some plan) → CanMake plan made → length made.drafts ≡ messages_due plan
   -- and so does a message that is taken

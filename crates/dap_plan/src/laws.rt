@@ -4,7 +4,7 @@ ghost use Rattle.dap_plan.specs.BodyLaws.{SuccessesHaveTheirBodies};
 ghost use Rattle.dap_plan.specs.GivenLaws.{EachAnswerGivesLive};
 ghost use Rattle.dap_plan.specs.Laws.{EachStepGoesOn};
 ghost use Rattle.dap_plan.specs.OrderLaws.{FailuresComeInOrder, RefusalsComeInOrder};
-ghost use Rattle.dap_plan.specs.OfferLaws.{OffersAreServed};
+ghost use Rattle.dap_plan.specs.OfferLaws.{EachOfferIsServed, OffersAreServed};
 ghost use Rattle.dap_plan.specs.ReferenceLaws.{ReferencesAreApart};
 ghost use Rattle.dap_plan.specs.RefusalLaws.{RefusalsChangeNothing};
 ghost use Rattle.dap_plan.specs.StaleLaws.{DeadNumbersAreStale};
@@ -41,10 +41,11 @@ pub fn references_are_apart()
     ensures { ReferencesAreApart }
 {}
 
-/// What `initialize` offers is what is served: the flags allow a command just where the table has a row for it, or it is `cancel`,
-/// which is answered where it is taken.
+/// What `initialize` offers is what is served: the usual flags allow a command just where the table has a row for it, or it is
+/// `cancel`, which is answered where it is taken; and whatever is offered, each command that its flags allow is served.
 pub fn offers_are_served()
-    ensures { OffersAreServed }
+    ensures usual { OffersAreServed }
+    ensures each { EachOfferIsServed }
 {}
 
 /// A served request that succeeds has a body just where the row of its command says so, whatever the debuggee shows and

@@ -1,11 +1,18 @@
 -- The outbox of a step of a session.
-use Rattle.std.proofs.Common.{◌≡◌, ℕ, ◌+◌, ◌≤◌, List, [], ◌∷◌, ◌++◌, length, Result, Ok, Err, OnOk, ap, subst, arith}
+use Rattle.std.proofs.Common.{◌≡◌, ℕ, ◌+◌, ◌≤◌, List, [], ◌∷◌, ◌++◌, length, Result, Ok, Err, OnOk, ap, subst, arith, true, Option, Some}
 use Rattle.dap_json.specs.Field.{max_seq}
-use Rattle.dap_message.specs.Lengths.{max_fixed, event_within}
+use Rattle.dap_message.specs.Lengths.{max_fixed, event_within, offer_fits, WhatIsAroundIsShort}
 use Rattle.dap_message.specs.MessageParts.{AdapterEvent}
 use Rattle.dap_tables.specs.Seq.{Numbers}
 use Rattle.dap_outbox.specs.Draft.{Draft, emit}
-use Rattle.dap_outbox.specs.Outbox.{OutboxState, IsReady, Holds, AppendsDraft}
+use Rattle.dap_outbox.specs.Outbox.{OutboxState, IsReady, Holds, AppendsDraft, IsAnswerWithin}
+use Rattle.std.proofs.lemmas.Bool.{leb-true}
+use Rattle.serde_json.specs.Written.{compact_text}
+use Rattle.dap_command.specs.declared.offer.Offer.{Offer}
+use Rattle.dap_body.specs.Body.{data_in}
+use Rattle.dap_body.specs.ResponseBody.{offer_body}
+use Rattle.dap_body.specs.declared.body.Body.{Body}
+use Rattle.dap_tables.specs.declared.entry.Entry.{Entry}
 use Rattle.dap_plan.specs.Session.{Session, numbers_of}
 
 -- nothing is written yet
@@ -27,6 +34,17 @@ holds-event (Ok x) old new limit used ds event n is h w =
     let at : old.numbers.used + 1 ≡ n = omega arith in
     subst (λ (k : ℕ). Holds new limit used (ds ++ emit (event_within limit k event) ∷ [])) at (w.holds limit used ds (omega arith) h)
 holds-event (Err e) old new limit used ds event n is h w = tt
+
+-- what is offered, where it fits
+pub offer-within : WhatIsAroundIsShort → (most : ℕ) (old : OutboxState) (r : Entry) (body : Option Body) (offers : Offer) → data_in body ≡ Some (offer_body offers) → offer_fits most offers ≡ true → IsAnswerWithin most old r body
+offer-within law most old r body offers is fits =
+    λ small i.
+    let leaves : length (compact_text (offer_body offers)) + 512 ≤ most = leb-true (length (compact_text (offer_body offers)) + 512) most fits in
+    let around = law (old.numbers.used + 1) r.seq r.command (offer_body offers) small i.seq i.command in
+    rw is (omega arith)
+
+pub offer-holds : (limit used : ℕ) (old new : OutboxState) (d : Draft) → Holds old limit used [] → AppendsDraft limit old new d → Holds new limit used (d ∷ [])
+offer-holds limit used old new d h w = w.holds limit used [] (omega arith) h
 
 -- what holds where a call succeeded
 pub each-done : {T E : Type 0} (r : Result T E) (P Q : Type 0) → (P → Q) → OnOk r P → OnOk r Q

@@ -1,21 +1,27 @@
 -- What a call of a session does: to the session and its debuggee, and to the bytes that are appended.
 -- Specification, "Request", "Response", "Event".
 use Rattle.std.specs.Prelude.{◌≡◌, ℕ, ◌<◌, true, false, Bool, IsTrue, IsOk, OnOk, Result, Vec}
+use Rattle.dap_command.specs.Offer.{usual_offer}
+use Rattle.dap_command.specs.declared.offer.Offer.{Offer}
 use Rattle.dap_debuggee.specs.Shown.{Shown}
 use Rattle.dap_envelope.specs.declared.message.Message.{Message}
 use Rattle.dap_frame.specs.Settings.{Settings}
 use Rattle.dap_plan.specs.Carried.{Goes}
 use Rattle.dap_plan.specs.Handling.{some_plan}
 use Rattle.dap_plan.specs.Polling.{has_debuggee, polls}
-use Rattle.dap_plan.specs.Session.{fresh_session, to_handle}
+use Rattle.dap_plan.specs.Session.{opened_session, to_handle}
 use Rattle.dap_plan.specs.SessionState.{SessionState, AppendsSome, Carries, HasTaken, HasTurned, IsIdle, IsRefusedPoll, IsUnasked, NotTaken}
 use Rattle.dap_plan.specs.Taking.{may_take_memory, takes}
 use Rattle.dap_plan.specs.declared.fault.AdapterFault.{AdapterFault}
 
 -- ---- states
 
+abbrev pub opened_state : {D : Type 0} → Settings → Offer → D → SessionState D
+opened_state limits offers debuggee = record { session = opened_session limits offers; debuggee = debuggee }
+
+-- with all that is served, and no more
 abbrev pub fresh_state : {D : Type 0} → Settings → D → SessionState D
-fresh_state limits debuggee = record { session = fresh_session limits; debuggee = debuggee }
+fresh_state limits debuggee = opened_state limits usual_offer debuggee
 
 -- the same session
 abbrev pub over_debuggee : {D : Type 0} → D → SessionState D → SessionState D

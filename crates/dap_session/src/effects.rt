@@ -7,41 +7,24 @@ ghost use Rattle.dap_call.specs.declared.call.Call.{Call};
 ghost use Rattle.dap_tables.specs.Outstanding.{contains_seq};
 ghost use Rattle.dap_debuggee.specs.Shown.{to_start, to_resume, to_pause, to_end};
 ghost use Rattle.dap_plan.specs.SessionState.{MadeBy, Carries, reply_of};
-ghost use Rattle.dap_plan.specs.Handling.{after_initialize, after_park, after_launch, after_configuration_done, after_terminate, after_resume, by_reply, options_of, start_phase, adapter_capabilities, resume_body as resume_body_word};
+ghost use Rattle.dap_plan.specs.Handling.{after_initialize, after_park, after_launch, after_configuration_done, after_terminate, after_resume, by_reply, options_of, start_phase, resume_body as resume_body_word};
 ghost use Rattle.dap_plan.specs.Plan.{after_answering, asking};
-ghost use Rattle.dap_outbox.specs.Draft.{reply, emit};
+ghost use Rattle.dap_outbox.specs.Draft.{reply, emit, success};
+ghost use Rattle.dap_body.specs.ResponseBody.{offer_body};
+ghost use Rattle.dap_message.specs.MessageParts.{initialized};
 ghost use Rattle.dap_outbox.specs.Outbox.{Holds, answer_of, event_of, shape_of, IsReady};
 
 use crate::session::Session;
 use dap_body::Failure;
 use dap_call::Call;
-use dap_command::Capabilities;
 use dap_debuggee::{Debuggee, How};
 use dap_decision::Phase;
+use dap_message::body_of_offer;
+use dap_message::laws::what_is_around_is_short;
 use dap_outbox::{Answer, Event, Fixed, Outbox};
 use dap_query::Options;
 use dap_tables::Entry;
 use std::alloc::{AllocError, Global};
-
-/// What this adapter offers.
-fn capabilities() -> Capabilities
-    ensures { result ≡ adapter_capabilities }
-{
-    Capabilities {
-        breakpoint_locations: false,
-        cancel: true,
-        completions: false,
-        configuration_done: true,
-        exception_info: false,
-        function_breakpoints: false,
-        loaded_sources: true,
-        modules: false,
-        restart: false,
-        set_variable: true,
-        step_back: true,
-        terminate: true,
-    }
-}
 
 /// What counts of the arguments of `initialize`.
 pub(crate) fn options_of(call: &Call) -> Options
@@ -166,6 +149,39 @@ impl<D: Debuggee + Drop> Session<D> {
         Ok(())
     }
 
+    /// Writes the response that tells what is offered.
+    fn one_offer(
+        &self,
+        alloc: Global,
+        out: &mut Outbox,
+        request: &Entry,
+    ) -> Result<(), AllocError>
+        requires ready { IsReady out.old (numbers_of self.now.session) }
+        requires room { self.now.session.used + 1 ≤ self.now.session.limits.seq }
+        ensures last { OnOk result (out.new.numbers.last ≡ self.now.session.limits.seq) }
+        ensures holds { OnOk result (Holds out.new self.now.session.limits.body self.now.session.used (reply request.now (success (Some (offer_body self.now.session.offers)) []) ∷ [])) }
+        ensures before { out.new.before ≡ out.old.before }
+    {
+        // For the proof: what is offered leaves room for what is around it.
+        what_is_around_is_short();
+        self.begin(out);
+        let offers = self.offers();
+        let body = body_of_offer(offers)?;
+        out.reply_with(alloc, request, body)
+    }
+
+    /// The same, and that the session is initialized.
+    fn offer(&self, alloc: Global, out: &mut Outbox, request: &Entry) -> Result<(), AllocError>
+        requires ready { IsReady out.old (numbers_of self.now.session) }
+        requires room { self.now.session.used + 2 ≤ self.now.session.limits.seq }
+        ensures last { OnOk result (out.new.numbers.last ≡ self.now.session.limits.seq) }
+        ensures holds { OnOk result (Holds out.new self.now.session.limits.body self.now.session.used (reply request.now (success (Some (offer_body self.now.session.offers)) []) ∷ emit initialized ∷ [])) }
+        ensures before { out.new.before ≡ out.old.before }
+    {
+        self.one_offer(alloc, out, request)?;
+        out.emit(alloc, Event::Initialized, self.limits().body())
+    }
+
     /// Tells what is offered, and that the session is initialized.
     pub(crate) fn initialize(
         &mut self,
@@ -181,14 +197,7 @@ impl<D: Debuggee + Drop> Session<D> {
         ensures err { OnErr result (self.new.session ≡ self.old.session) }
         ensures before { out.new.before ≡ out.old.before }
     {
-        let body = Some(Fixed::Initialize(capabilities()));
-        self.two(
-            alloc,
-            out,
-            request,
-            Answer::Success(body),
-            Event::Initialized,
-        )?;
+        self.offer(alloc, out, request)?;
         self.commit(request.seq, out);
         self.set_options(options_of(call));
         self.set_phase(Phase::Ready);

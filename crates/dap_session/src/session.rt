@@ -1,5 +1,5 @@
 //! A session with its debuggee: what is kept, and how it changes.
-ghost use Rattle.dap_session.specs.SessionCalls.{fresh_state, over_debuggee};
+ghost use Rattle.dap_session.specs.SessionCalls.{fresh_state, opened_state, over_debuggee};
 ghost use Rattle.std.specs.Prelude.{◌≡◌, ◌+◌, ◌≤◌, ◌<◌, [], ◌∷◌, ◌++◌, length, IfOk, IsTrue, true, false, not, nat_lt, None};
 ghost use Rattle.std.specs.Option.{option_copied};
 ghost use Rattle.dap_outbox.specs.Outbox.{IsReady};
@@ -7,10 +7,12 @@ ghost use Rattle.dap_tables.specs.Outstanding.{without, with_mark, contains_seq,
 ghost use Rattle.dap_tables.specs.References.{target_of};
 ghost use Rattle.dap_tables.specs.SourceMap.{count};
 ghost use Rattle.dap_query.specs.Queries.{object_of};
-ghost use Rattle.dap_plan.specs.Session.{own_requests, numbers_of};
+ghost use Rattle.dap_plan.specs.Session.{offers_fit, own_requests, numbers_of};
 ghost use Rattle.dap_debuggee.specs.Laws.{is_short};
 ghost use Rattle.dap_debuggee.specs.Shown.{to_start, to_resume, to_pause, to_poll, to_end, done, happened};
 
+use crate::offers::usual_offers;
+use dap_command::Offer;
 use dap_debuggee::{Debuggee, DebuggeeFault, Happening, HasMail, How};
 use dap_decision::Phase;
 use dap_frame::Limits;
@@ -32,6 +34,8 @@ pub struct Session<D: Debuggee + Drop> {
     /// The number of the own request that is not answered.
     pub(crate) asked: Option<u64>,
     pub(crate) numbers: Seq,
+    /// What it offers.
+    offers: Offer,
     pub(crate) debuggee: D,
 }
 
@@ -47,6 +51,7 @@ impl<D: Debuggee + Drop> Model for Session<D> {
     ghost view = { λ a. record {
       session = record {
         limits = a.queries.limits;
+        offers = a.offers;
         phase = a.phase;
         options = a.queries.options;
         kept = a.kept.kept;
@@ -58,16 +63,29 @@ impl<D: Debuggee + Drop> Model for Session<D> {
       debuggee = a.debuggee;
     } };
 
-    ghost invariant = { λ a. IsSession a.queries.limits a.kept a.breakpoints a.numbers };
+    ghost invariant = { λ a. IsSession a.queries.limits a.offers a.kept a.breakpoints a.numbers };
 }
 
 impl<D: Debuggee + Drop> Session<D> {
     ghost use Rattle.dap_plan.specs.SessionState.{reply_of};
     ghost use Rattle.dap_tables.specs.References.{without_references};
 
-    /// A fresh session.
+    /// A fresh session. It offers all that is served, and no more.
     pub fn open(alloc: Global, limits: Limits, debuggee: D) -> Result<Session<D>, AllocError>
         ensures { IfOk result (λ state. state ≡ fresh_state limits debuggee) }
+    {
+        Session::open_with(alloc, limits, debuggee, usual_offers(limits))
+    }
+
+    /// A fresh session with these offers, which fit.
+    pub fn open_with(
+        alloc: Global,
+        limits: Limits,
+        debuggee: D,
+        offers: Offer,
+    ) -> Result<Session<D>, AllocError>
+        requires fits { IsTrue (offers_fit limits offers) }
+        ensures { IfOk result (λ state. state ≡ opened_state limits offers debuggee) }
     {
         let kept = Outstanding::open(alloc, limits.requests())?;
         let breakpoints = Breakpoints::open(alloc, limits.breakpoints())?;
@@ -80,6 +98,7 @@ impl<D: Debuggee + Drop> Session<D> {
             breakpoints,
             asked: None,
             numbers,
+            offers,
             debuggee,
         })
     }
@@ -150,6 +169,15 @@ impl<D: Debuggee + Drop> Session<D> {
         ensures { result ≡ self.now.session.limits }
     {
         self.queries.limits()
+    }
+
+    /// What it offers, which fits.
+    pub(crate) fn offers(&self) -> &Offer
+        ensures value { result.now ≡ self.now.session.offers }
+        ensures fits { IsTrue (offers_fit self.now.session.limits self.now.session.offers) }
+    {
+        let _ = &self.queries;
+        &self.offers
     }
 
     pub(crate) fn options(&self) -> Options

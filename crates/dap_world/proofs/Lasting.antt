@@ -3,6 +3,7 @@ use Rattle.std.proofs.Common.{[], false, refl, sym, subst}
 use Rattle.dap_ends.proofs.Announcements.{announces}
 use Rattle.dap_ends.proofs.PairTranscripts.{writes}
 use Rattle.dap_frame.specs.Settings.{Settings, AreInRange}
+use Rattle.dap_command.specs.Offer.{usual_offer}
 use Rattle.dap_debuggee.specs.Shown.{Shown}
 use Rattle.dap_plan.specs.Carried.{Goes}
 use Rattle.dap_world.specs.World.{World, fresh_world, Step, by_sending, by_answering, by_coming_up, by_coming_down, by_turning, by_polling, by_exchanging, Schedule, starts, goes}
@@ -15,6 +16,7 @@ fresh-stands laws limits debuggee =
     record {
       client_limits = refl;
       adapter_limits = refl;
+      offers = refl;
       by = record { uses = λ q. []; wants = λ q. false };
       writes = writes limits.requests limits.references [];
       announces = announces limits.requests limits.references [];
@@ -22,7 +24,7 @@ fresh-stands laws limits debuggee =
       kept = tt;
       down = tt;
       client_within = laws.client_stays.fresh limits;
-      adapter_within = laws.adapter_stays.fresh limits;
+      adapter_within = laws.adapter_stays.opened limits usual_offer;
       quiet = λ e. refl;
     }
 
@@ -32,6 +34,7 @@ stands-over limits w debuggee g =
     record {
       client_limits = g.client_limits;
       adapter_limits = g.adapter_limits;
+      offers = g.offers;
       by = g.by;
       writes = g.writes;
       announces = g.announces;

@@ -12,6 +12,8 @@ mod greatest;
 #[cfg(test)]
 mod last_numbers;
 #[cfg(test)]
+mod offers;
+#[cfg(test)]
 mod playing;
 #[cfg(test)]
 mod sessions;

@@ -194,7 +194,11 @@ fn body(alloc: Global, place: usize) -> Result<Value, AllocError> {
         9 => body_stopped(alloc, Text::copied(alloc, "step")?, 1, More::none()),
         10 => body_set_variable(alloc, Text::copied(alloc, "9")?),
         11 => body_continue(alloc),
-        12 => Body::Initialize { capabilities: ALL }.value(alloc),
+        12 => Body::Initialize {
+            capabilities: ALL,
+            more: More::none(),
+        }
+        .value(alloc),
         13 => body_terminal(alloc, Some(7), Some(8)),
         _ => body_failure(alloc, Failure::BadArguments { key: Key::ThreadId }),
     }
@@ -247,9 +251,13 @@ fn answer(alloc: Global, place: usize) -> Result<Option<Body>, AllocError> {
             more: More::none(),
         })),
         1 => Ok(Some(Body::Continue)),
-        2 => Ok(Some(Body::Initialize { capabilities: ALL })),
+        2 => Ok(Some(Body::Initialize {
+            capabilities: ALL,
+            more: More::none(),
+        })),
         3 => Ok(Some(Body::Initialize {
             capabilities: Capabilities::read(None),
+            more: More::none(),
         })),
         _ => Ok(None),
     }

@@ -59,9 +59,13 @@ fn body(alloc: Global, place: usize) -> Result<Option<Body>, AllocError> {
             value: Text::copied(alloc, "9")?,
             more: More::none(),
         },
-        10 => Body::Initialize { capabilities: ALL },
+        10 => Body::Initialize {
+            capabilities: ALL,
+            more: More::none(),
+        },
         11 => Body::Initialize {
             capabilities: Capabilities::read(None),
+            more: More::text(alloc, "supportsRestartRequest", "no flag")?,
         },
         12 => Body::RunInTerminal {
             process_id: Some(7),

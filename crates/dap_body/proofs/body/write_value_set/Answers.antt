@@ -1,4 +1,4 @@
-use Rattle.std.proofs.Common.{◌≡◌, true, refl}
+use Rattle.std.proofs.Common.{refl}
 use Rattle.std.proofs.lemmas.Result.{on_ok_weaker}
 use Rattle.dap_body.specs.ResponseBody.{set_variable_fields}
 use Rattle.dap_body.proofs.FitMembers.{then-field, then-none, wrote-beside, beside-is-sound}

@@ -1,5 +1,8 @@
-use Rattle.dap_plan.proofs.Offers.{offers_are_served}
+use Rattle.dap_plan.proofs.Offers.{offers_are_served, each_offer_is_served}
 use Rattle.dap_plan.proofs.laws.offers_are_served.Goals as goal
 
-pub returns : goal.returns
-returns c = offers_are_served
+pub returns-clause-usual : goal.returns-clause-usual
+returns-clause-usual c = offers_are_served
+
+pub returns-clause-each : goal.returns-clause-each
+returns-clause-each c = each_offer_is_served

@@ -13,6 +13,8 @@ pub returns-clause-fresh : goal.returns-clause-fresh
 returns-clause-fresh c = record {
   sources = c.in-Ok.sources;
   reads = c.in-Ok.ensures;
+  offers = c.in-Ok-2.offers;
+  offered = c.in-Ok-2.ensures.offers;
   stands = c.in_ok-adapter.ensures.stands;
   session = c.in_ok-adapter.ensures.session;
   debuggee = c.in_ok-adapter.ensures.debuggee ∙ c.open-live.ensures;
@@ -22,4 +24,4 @@ returns-clause-fresh c = record {
 }
 
 pub returns-clause-going : goal.returns-clause-going
-returns-clause-going c = fresh_going _ c.args.limits c.in-Ok.sources c.in_ok-adapter.ensures.stands c.in_ok-adapter.ensures.session (c.in_ok-adapter.ensures.debuggee ∙ c.open-live.ensures) refl c.limits_are_in_range.ensures c.bodies_come_one_by_one.ensures
+returns-clause-going c = fresh_going _ c.args.limits _ c.in-Ok.sources c.in_ok-adapter.ensures.stands c.in_ok-adapter.ensures.session (c.in_ok-adapter.ensures.debuggee ∙ c.open-live.ensures) refl c.limits_are_in_range.ensures c.bodies_come_one_by_one.ensures

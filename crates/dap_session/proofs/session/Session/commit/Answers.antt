@@ -4,4 +4,4 @@ use Rattle.dap_session.proofs.Sessions.{session-without}
 use Rattle.dap_session.proofs.session.Session.commit.Goals as goal
 
 pub invariant_of-self : goal.invariant_of-self
-invariant_of-self g c = session-without _ _ _ _ _ _ c.args.seq c.self.invariant c.take.ensures.others c.take.ensures.orderly (ap (λ (n : Numbers). n.last) c.numbers-self-inside.ensures.numbers ∙ (rw (← c.self.view_is) at c.requires.last)) c.numbers-self-inside.ensures.used
+invariant_of-self g c = session-without _ _ _ _ _ _ _ c.args.seq c.self.invariant c.take.ensures.others c.take.ensures.orderly (ap (λ (n : Numbers). n.last) c.numbers-self-inside.ensures.numbers ∙ (rw (← c.self.view_is) at c.requires.last)) c.numbers-self-inside.ensures.used

@@ -4,4 +4,4 @@ use Rattle.dap_session.proofs.Sessions.{session-spent}
 use Rattle.dap_session.proofs.session.Session.spend.Goals as goal
 
 pub invariant_of-self : goal.invariant_of-self
-invariant_of-self g c = session-spent _ _ _ _ _ c.self.invariant (ap (λ (n : Numbers). n.last) c.numbers-self-inside.ensures.numbers ∙ (rw (← c.self.view_is) at c.requires.last)) c.numbers-self-inside.ensures.used
+invariant_of-self g c = session-spent _ _ _ _ _ _ c.self.invariant (ap (λ (n : Numbers). n.last) c.numbers-self-inside.ensures.numbers ∙ (rw (← c.self.view_is) at c.requires.last)) c.numbers-self-inside.ensures.used
