@@ -28,12 +28,13 @@ holds-more (Ok x) old new limit used ds d h w = w.holds limit used ds h.room h
 holds-more (Err e) old new limit used ds d h w = tt
 
 -- an event more, with what is said beside it where that fits
-pub holds-event : {T E : Type 0} (r : Result T E) (old new : OutboxState) (limit used : ℕ) (ds : List Draft) (event : AdapterEvent) (n : ℕ) → used + length ds + 1 ≡ n → Holds old limit used ds → OnOk r (AppendsDraft limit old new (emit (event_within limit (old.numbers.used + 1) event))) → OnOk r (Holds new limit used (ds ++ emit (event_within limit n event) ∷ []))
-holds-event (Ok x) old new limit used ds event n is h w =
+pub holds-event : {T E : Type 0} (r : Result T E) (old new : OutboxState) (most limit used : ℕ) (ds : List Draft) (event : AdapterEvent) (n : ℕ) → most ≡ limit → used + length ds + 1 ≡ n → Holds old limit used ds → OnOk r (AppendsDraft most old new (emit (event_within most (old.numbers.used + 1) event))) → OnOk r (Holds new limit used (ds ++ emit (event_within limit n event) ∷ []))
+holds-event (Ok x) old new most limit used ds event n all is h w =
     let count = h.count in
     let at : old.numbers.used + 1 ≡ n = omega arith in
-    subst (λ (k : ℕ). Holds new limit used (ds ++ emit (event_within limit k event) ∷ [])) at (w.holds limit used ds (omega arith) h)
-holds-event (Err e) old new limit used ds event n is h w = tt
+    let within = subst (λ (m : ℕ). AppendsDraft m old new (emit (event_within m (old.numbers.used + 1) event))) all w in
+    subst (λ (k : ℕ). Holds new limit used (ds ++ emit (event_within limit k event) ∷ [])) at (within.holds limit used ds (omega arith) h)
+holds-event (Err e) old new most limit used ds event n all is h w = tt
 
 -- what is offered, where it fits
 pub offer-within : WhatIsAroundIsShort → (most : ℕ) (old : OutboxState) (r : Entry) (body : Option Body) (offers : Offer) → data_in body ≡ Some (offer_body offers) → offer_fits most offers ≡ true → IsAnswerWithin most old r body
