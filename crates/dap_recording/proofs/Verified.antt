@@ -4,9 +4,11 @@ use Rattle.std.proofs.lemmas.Bool.Decides.{nat_tests}
 use Rattle.std.specs.List.{list_any, slice_get}
 use Rattle.dap_command.specs.declared.source_key.SourceKey.{SourceKey}
 use Rattle.dap_command.specs.declared.source_key.SourceKey.TheVariants.{Path, Reference}
-use Rattle.dap_recording.specs.PrivatePaths.{is_of_path, path_lines_of, most_lines, lines_of_key}
-use Rattle.dap_recording.specs.Sources.{path_has_line, source_has_line, has_source_line}
+use Rattle.dap_recording.specs.PrivatePaths.{is_of_path, path_lines_of, most_lines, lines_of_key, placed_within}
+use Rattle.dap_recording.specs.Sources.{path_has_line, source_has_line, has_source_line, placed_in}
 use Rattle.dap_recording.specs.declared.recording.RecordedSource.{RecordedSource}
+use Rattle.dap_debuggee.specs.Shown.{as_asked}
+use Rattle.dap_debuggee.specs.declared.answers.Placement.{Placement}
 
 -- within the lines of a source or of the others
 or_max : (line a b : ℕ) → ((nat_le 1 line && nat_le line a) || (nat_le 1 line && nat_le line b)) ≡ (nat_le 1 line && nat_le line (max a b))
@@ -35,8 +37,8 @@ has_line_by sources (Path path) line = any_by_most path line sources
 has_line_by sources (Reference zero) line = no_lines line
 has_line_by sources (Reference (suc n)) line = at_by line (slice_get sources n)
 
-pub has_line_by_most : (sources : List RecordedSource) (key : SourceKey) (lines : List ℕ) → map (has_source_line sources key) lines ≡ map (λ line. nat_le 1 line && nat_le line (lines_of_key sources key)) lines
+pub has_line_by_most : (sources : List RecordedSource) (key : SourceKey) (lines : List ℕ) → map (placed_in sources key) lines ≡ map (placed_within (lines_of_key sources key)) lines
 has_line_by_most sources key [] = refl
 has_line_by_most sources key (line ∷ lines) =
-    ap (λ b. b ∷ map (has_source_line sources key) lines) (has_line_by sources key line)
-    ∙ ap (λ bs. (nat_le 1 line && nat_le line (lines_of_key sources key)) ∷ bs) (has_line_by_most sources key lines)
+    ap (λ b. as_asked b line ∷ map (placed_in sources key) lines) (has_line_by sources key line)
+    ∙ ap (λ (ps : List Placement). placed_within (lines_of_key sources key) line ∷ ps) (has_line_by_most sources key lines)

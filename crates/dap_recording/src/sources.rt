@@ -1,7 +1,7 @@
 //! The sources of a debuggee: the name, the path and the text of each, and how many lines there are under a path.
 ghost use Rattle.std.specs.Prelude.{◌≡◌, ◌&&◌, nat_le, ◌++◌, IfOk, OnOk, map, option_map};
 ghost use Rattle.dap_recording.specs.Sources.{source_shown};
-ghost use Rattle.dap_debuggee.specs.Shown.{as_asked};
+ghost use Rattle.dap_recording.specs.PrivatePaths.{placed_within};
 
 use crate::numbers::MAX_SOURCES;
 use crate::paths;
@@ -222,7 +222,7 @@ fn shown(alloc: Global, sources: &[RecordedSource]) -> Result<Vec<Source>, Alloc
 }
 
 fn verified(alloc: Global, most: u64, lines: &[u32]) -> Result<Vec<Placement>, AllocError>
-    ensures { IfOk result (λ answers. answers.items ≡ map (λ line. as_asked (nat_le 1 line && nat_le line most) line) lines.now) }
+    ensures { IfOk result (λ answers. answers.items ≡ map (placed_within most) lines.now) }
 {
     let mut answers = Vec::new(alloc);
     for line in lines {

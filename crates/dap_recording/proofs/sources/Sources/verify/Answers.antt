@@ -1,4 +1,5 @@
-use Rattle.std.proofs.Common.{◌≡◌, ◌&&◌, nat_le, map, IfOk, sym, ap, subst, ◌∙◌}
+use Rattle.std.proofs.Common.{◌≡◌, map, IfOk, sym, ap, subst, ◌∙◌}
+use Rattle.dap_recording.specs.PrivatePaths.{placed_within}
 use Rattle.dap_recording.proofs.Verified.{has_line_by_most}
 use Rattle.dap_recording.proofs.sources.Sources.verify.Goals as goal
 
@@ -8,4 +9,4 @@ returns c =
     let key = c.args.source.now in
     let lines = c.args.lines.now in
     subst (λ all. IfOk c.verified.result (λ answers. answers.items ≡ all))
-    (ap (λ n. map (λ line. nat_le 1 line && nat_le line n) lines) c.lines_of-most.ensures ∙ sym (has_line_by_most sources key lines)) c.verified.ensures
+    (ap (λ n. map (placed_within n) lines) c.lines_of-most.ensures ∙ sym (has_line_by_most sources key lines)) c.verified.ensures
