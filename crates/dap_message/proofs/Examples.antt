@@ -37,6 +37,11 @@ a_reason : canon (explained_response 3 2 (codes "evaluate") true (codes "no x"))
 unfolding canon tree_of response_members escape_byte digits
 a_reason = refl
 
+-- 186 bytes and the reason
+bytes_of_a_reason : length (canon (explained_response 7 4 (codes "evaluate") true (replicate 4 122))) ≡ 190
+unfolding canon tree_of response_members escape_byte digits
+bytes_of_a_reason = refl
+
 nothing_to_say : canon (success_response 4 3 (codes "cancel") None) ≡ codes "{\"command\":\"cancel\",\"request_seq\":3,\"seq\":4,\"success\":true,\"type\":\"response\"}"
 unfolding canon tree_of response_members escape_byte digits
 nothing_to_say = refl

@@ -27,3 +27,4 @@ pub mod Bodies
 pub mod Gives
 pub mod States
 pub mod Placed
+pub mod ExplainedExamples

@@ -13,5 +13,5 @@ returns-in_ok-make_change-in-Ok-clause-carries g c =
 pub returns-in-Err-Fails-clause-carries : goal.returns-in-Err-Fails-clause-carries
 returns-in-Err-Fails-clause-carries g c =
     each-done c.fail.result _ _
-    (λ made. subst (λ (p : Plan). Carries g.D.Debuggee.follows p c.args.self.now c.fail.new.self c.fail.new.out.bytes) (sym (rw (c.in-Err-Fails.field-0-is, ← c.query_before-query.ensures) at c.in-Err-Fails.ensures.fails)) (at_once_carries g.D.Debuggee.follows _ _ _ _ made c.fail.ensures.debuggee))
-    c.fail.ensures.made
+    (λ made. subst (λ (p : Plan). Carries g.D.Debuggee.follows p c.args.self.now c.fail.new.self c.fail.new.out.bytes) (sym (rw c.in-Err-Fails.field-0-is at c.in-Err-Fails.ensures.fails)) (at_once_carries g.D.Debuggee.follows _ _ _ _ made c.fail.ensures.debuggee))
+    (rw c.query_before-query.ensures at c.fail.ensures.made)

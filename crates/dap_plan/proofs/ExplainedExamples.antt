@@ -1,0 +1,55 @@
+-- Worked examples of failures with why the debuggee refused, each shown by computation.
+use Rattle.std.proofs.Common.{◌≡◌, [], ◌∷◌, true, false, codes, Option, Some, None, pos, refl}
+use Rattle.dap_frame.specs.Settings.{usual_settings}
+use Rattle.dap_body.specs.declared.failure.Failure.{Failure}
+use Rattle.dap_body.specs.declared.failure.Failure.TheVariants.{Debuggee, TooLarge, StaleReference}
+use Rattle.dap_call.specs.declared.call.Call.{Call}
+use Rattle.dap_call.specs.declared.call.Call.TheVariants as call
+use Rattle.dap_command.specs.declared.source_key.SourceKey.TheVariants.{Reference}
+use Rattle.dap_debuggee.specs.Shown.{for_frames, for_value, for_content, for_verified}
+use Rattle.dap_debuggee.specs.declared.explanation.Explanation.{Explanation}
+use Rattle.dap_outbox.specs.Draft.{explained, failure, failure_in}
+use Rattle.dap_tables.specs.declared.entry.Entry.{Entry}
+use Rattle.dap_plan.specs.Handling.{explained_if, failing, query_asked, query_before}
+use Rattle.dap_plan.specs.Session.{Session, fresh_session}
+
+abbrev session : Session
+session = fresh_session usual_settings
+
+with_its_reason : (told : Explanation) → (explained_if true told ≡ explained told) × (explained_if false told ≡ failure Debuggee)
+with_its_reason told = (refl, refl)
+
+-- where nothing is said each failure is as it was
+without_a_reason : (s : Session) (r : Entry) (f : Failure) → failing s r f None ≡ failure f
+without_a_reason s r Debuggee = refl
+without_a_reason s r _ = refl
+
+-- no other failure has one
+of_no_other : (s : Session) (r : Entry) (told : Explanation) → (failing s r TooLarge (Some told) ≡ failure TooLarge) × (failing s r StaleReference (Some told) ≡ failure StaleReference)
+of_no_other s r told = (refl, refl)
+
+still_that_failure : (told : Explanation) → failure_in (explained told) ≡ Some Debuggee
+still_that_failure told = refl
+
+-- ---- what is queried
+
+frames : query_asked session (call.StackTrace (record { thread_id = pos 7; start_frame = 1; levels = 2 })) ≡ Some (for_frames (pos 7))
+frames = refl
+
+in_no_frame : query_asked session (call.Evaluate (record { expression = codes "x"; frame_id = None })) ≡ Some (for_value None (codes "x"))
+in_no_frame = refl
+
+-- sources are numbered from 1
+content : query_asked session (call.Source 3) ≡ Some (for_content 2)
+content = refl
+
+-- a number that names nothing is no query
+of_nothing : (query_asked session (call.Scopes 1) ≡ None) × (query_asked session (call.Variables (record { variables_reference = 1; start = 0; count = 0 })) ≡ None) × (query_before session (call.SetVariable (record { variables_reference = 1; name = codes "x"; value = codes "1" })) ≡ None)
+of_nothing = (refl, refl, refl)
+
+-- nor is one that is never refused
+never_refused : (query_asked session call.Threads ≡ None) × (query_asked session call.LoadedSources ≡ None) × (query_before session call.Threads ≡ None)
+never_refused = (refl, refl, refl)
+
+verified : (query_before session (call.SetBreakpoints (Reference 1) (2 ∷ 3 ∷ [])) ≡ Some (for_verified (Reference 1) (2 ∷ 3 ∷ []))) × (query_asked session (call.SetBreakpoints (Reference 1) (2 ∷ [])) ≡ None)
+verified = (refl, refl)
