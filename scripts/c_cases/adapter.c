@@ -134,11 +134,15 @@ static int goes(void) {
     CHECK(yt_adapter_act(&adapter, &act) == YT_OK && act.kind == 2 && act.how == 1 && act.thread == 7);
     if (!told(yt_adapter_output(&adapter, 1, BYTES("bye"), &found))) return 0;
     CHECK(has("\"output\":\"bye\"") && has("\"category\":\"stdout\""));
+    if (!told(yt_adapter_output_with(&adapter, 4, BYTES("n"), BYTES("{\"data\":{\"n\":1},\"output\":\"m\"}"), &found))) return 0;
+    CHECK(has("\"output\":\"n\"") && has("\"category\":\"telemetry\"") && has("\"data\":{\"n\":1}"));
     static uint8_t much[129];
     memset(much, 'x', sizeof much);
     uint32_t code = yt_adapter_output(&adapter, 1, much, sizeof much, &found);
     if (!goes_on(code)) return 0;
     CHECK(code == YT_OUT_OF_RANGE && found.bytes == 0);
+    if (!told(yt_adapter_stopped_with(&adapter, BYTES("step"), 7, BYTES(SHOWS), false, BYTES("{\"description\":\"there\",\"reason\":\"x\"}"), &found))) return 0;
+    CHECK(has("\"reason\":\"step\"") && has("\"description\":\"there\""));
     if (!told(yt_adapter_exited(&adapter, 5, &found))) return 0;
     CHECK(has("\"exitCode\":5") && has("\"event\":\"terminated\""));
     return hear("{\"seq\":12,\"type\":\"request\",\"command\":\"disconnect\"}");
@@ -169,6 +173,8 @@ static void nothing_is_held(void) {
     CHECK(yt_adapter_take(&adapter, BYTES("x"), &found) == YT_NONE && yt_adapter_turn(&adapter, &found) == YT_NONE);
     CHECK(yt_adapter_bytes(&adapter, out, 1) == YT_NONE && yt_adapter_frame(&adapter, out, 1) == YT_NONE);
     CHECK(yt_adapter_output(&adapter, 9, BYTES("x"), &found) == YT_NONE && yt_adapter_stopped(&adapter, BYTES("x"), 1, BYTES(SHOWS), false, &found) == YT_NONE);
+    CHECK(yt_adapter_output_with(&adapter, 9, BYTES("x"), BYTES("{}"), &found) == YT_NONE);
+    CHECK(yt_adapter_stopped_with(&adapter, BYTES("x"), 1, BYTES(SHOWS), false, BYTES("{}"), &found) == YT_NONE);
     CHECK(yt_adapter_continued(&adapter, 1, &found) == YT_NONE && yt_adapter_exited(&adapter, 1, &found) == YT_NONE);
     CHECK(yt_adapter_learned(&adapter, BYTES("x"), true, BYTES("y"), false, 0, &found) == YT_NONE);
     CHECK(yt_adapter_learned_with(&adapter, BYTES("x"), true, BYTES("y"), false, 0, BYTES("{}"), &found) == YT_NONE);
@@ -190,6 +196,10 @@ static void nothing_is_held(void) {
     CHECK(yt_adapter_stopped(&adapter, BYTES("x"), 1, BYTES(PAST), false, &found) == YT_BAD_RECORDING); /* there is one source */
     CHECK(yt_adapter_stopped(&adapter, BYTES("x"), 1, BYTES(SHOWS), false, &found) == YT_OUT_OF_TURN);
     CHECK(yt_adapter_output(&adapter, 9, BYTES("x"), &found) == YT_BAD_ARGUMENTS && yt_adapter_output(&adapter, 1, BYTES("\xff"), &found) == YT_BAD_ARGUMENTS);
+    CHECK(yt_adapter_output_with(&adapter, 5, BYTES("x"), BYTES("{}"), &found) == YT_BAD_ARGUMENTS);
+    CHECK(yt_adapter_output_with(&adapter, 3, BYTES("x"), BYTES("{\"a\":0.5}"), &found) == YT_BAD_ARGUMENTS);
+    CHECK(yt_adapter_output_with(&adapter, 3, BYTES("x"), NULL, 0, &found) == YT_OUT_OF_TURN);
+    CHECK(yt_adapter_stopped_with(&adapter, BYTES("x"), 1, BYTES(SHOWS), false, BYTES("7"), &found) == YT_BAD_ARGUMENTS);
     CHECK(yt_adapter_stopped(&adapter, BYTES("x"), 1, BYTES("[]"), false, &found) == YT_BAD_RECORDING);
     CHECK(yt_adapter_variable_with(&adapter, BYTES("x"), BYTES("y"), false, 0, BYTES("[]")) == YT_BAD_ARGUMENTS);
     CHECK(yt_adapter_variable_with(&adapter, BYTES("x"), BYTES("y"), false, 0, BYTES("{\"a\":0.5}")) == YT_BAD_ARGUMENTS);
