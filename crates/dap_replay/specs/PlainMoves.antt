@@ -1,6 +1,6 @@
 -- Recordings of which no moment has a stop of its own: where their runs go and how these stop, by rules that know no such stops.
 -- This profile's choice.
-use Rattle.std.specs.Prelude.{◌≡◌, ℕ, suc, ◌-◌, ℤ, pos, not, nat_le, nat_lt, List, Option, option_map, unwrap_or, IsTrue}
+use Rattle.std.specs.Prelude.{◌≡◌, ℕ, suc, ◌-◌, ℤ, pos, not, nat_le, nat_lt, List, Option, option_map, unwrap_or, IsTrue, []}
 use Rattle.std.specs.List.{list_all, slice_get}
 use Rattle.dap_recording.specs.Recording.{depth, id_at}
 use Rattle.dap_replay.specs.Moves.{Lines, has_stop, least_after, greatest_before, is_at_breakpoint, depth_at, reason_of, reason_text, move_of, move_to}
