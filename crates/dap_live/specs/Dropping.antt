@@ -1,6 +1,6 @@
 -- What is dropped of what a host says of its debuggee, and why.
 -- This profile's choice: the trait's laws say what may happen in a state, and in which range.
-use Rattle.std.specs.Prelude.{◌≡◌, ℕ, ℤ, ◌+◌, nat_lt, nat_le, List, length, Option, Some, None, IsTrue, if◌then◌else◌}
+use Rattle.std.specs.Prelude.{◌≡◌, ℕ, ℤ, ◌+◌, nat_lt, nat_le, List, length, Option, Some, None, IsTrue, if◌then◌else◌, []}
 use Rattle.dap_debuggee.specs.Laws.{may_happen, is_short}
 use Rattle.dap_debuggee.specs.declared.answers.State.{State}
 use Rattle.dap_debuggee.specs.declared.answers.Happening.{Happening}
