@@ -480,10 +480,14 @@ fn offers_line(alloc: Global, name: &str, fault: &OffersFault) -> Result<Vec<u8>
         OffersFault::BadKey(key) => {
             line.extend_from_slice(b": the key ")?;
             line.extend_from_slice(key.as_str().as_bytes())?;
-            line.extend_from_slice(b" of offers is refused: nothing here serves that, or it is no flag\n")?;
+            line.extend_from_slice(
+                b" of offers is refused: nothing here serves that, or it is no flag\n",
+            )?;
         }
         OffersFault::TooLarge => {
-            line.extend_from_slice(b": the key offers is refused: it is too long for a response\n")?;
+            line.extend_from_slice(
+                b": the key offers is refused: it is too long for a response\n",
+            )?;
         }
         _ => line.extend_from_slice(b": the key offers is refused: it is no object\n")?,
     }

@@ -111,12 +111,13 @@ fn opened_with(
     ensures no_offer { IfErr result (λ code. code ≡ YT_BAD_ARGUMENTS → OffersNothing (settings_of limits.now) (json_of offers.now)) }
     ensures code { IfErr result IsCodeOfOpenWith }
 {
-    let Ok(limits) = limits::read(limits) else {
-        return Err(YT_BAD_LIMITS);
+    let limits = match limits::read(limits) {
+        Ok(limits) => limits,
+        Err(_) => return Err(YT_BAD_LIMITS),
     };
-    let sources = sources_given(alloc, base)?;
+    let given = sources_given(alloc, base)?;
     let offers = offers_given(alloc, limits, offers)?;
-    match Adapter::open_with(alloc, limits, Live::open(alloc, sources), offers) {
+    match Adapter::open_with(alloc, limits, Live::open(alloc, given), offers) {
         Ok(adapter) => boxed(alloc, adapter),
         Err(_) => Err(YT_NO_MEMORY),
     }

@@ -19,8 +19,8 @@ pub use acts::{
     YtAct, yt_adapter_act, yt_adapter_lines, yt_adapter_name, yt_adapter_source, yt_adapter_value,
 };
 pub use adapter::{
-    yt_adapter_bytes, yt_adapter_frame, yt_adapter_free, yt_adapter_open, yt_adapter_take,
-    yt_adapter_turn,
+    yt_adapter_bytes, yt_adapter_frame, yt_adapter_free, yt_adapter_open, yt_adapter_open_with,
+    yt_adapter_take, yt_adapter_turn,
 };
 pub use adapter_handle::{AdapterHandle, YtAdapter};
 pub use adapter_layout::{YtAdapterSizes, yt_adapter_sizes_of};

@@ -150,12 +150,7 @@ impl<D: Debuggee + Drop> Session<D> {
     }
 
     /// Writes the response that tells what is offered.
-    fn one_offer(
-        &self,
-        alloc: Global,
-        out: &mut Outbox,
-        request: &Entry,
-    ) -> Result<(), AllocError>
+    fn one_offer(&self, alloc: Global, out: &mut Outbox, request: &Entry) -> Result<(), AllocError>
         requires ready { IsReady out.old (numbers_of self.now.session) }
         requires room { self.now.session.used + 1 ≤ self.now.session.limits.seq }
         ensures last { OnOk result (out.new.numbers.last ≡ self.now.session.limits.seq) }

@@ -27,8 +27,14 @@ static ROWS: [(&str, &str); 14] = [
         r#"{"z":null}"#,
     ),
     (r#"{"supportsStepBack":null}"#, "supportsStepBack"),
-    (r#"{"supportsRestartRequest":true}"#, "supportsRestartRequest"),
-    (r#"{"supportsCompletionsRequest":1}"#, "supportsCompletionsRequest"),
+    (
+        r#"{"supportsRestartRequest":true}"#,
+        "supportsRestartRequest",
+    ),
+    (
+        r#"{"supportsCompletionsRequest":1}"#,
+        "supportsCompletionsRequest",
+    ),
     (r#"{"supportsSetExpression":true}"#, "supportsSetExpression"),
     (
         r#"{"supportsGotoTargetsRequest":true,"supportsDataBreakpoints":true}"#,
@@ -90,7 +96,9 @@ fn whole(alloc: Global, body: &str) -> Result<String, AllocError> {
     let mut text = String::new(alloc);
     text.push_str(r#"{"body":"#)?;
     text.push_str(body)?;
-    text.push_str(r#","command":"initialize","request_seq":1,"seq":1,"success":true,"type":"response"}"#)?;
+    text.push_str(
+        r#","command":"initialize","request_seq":1,"seq":1,"success":true,"type":"response"}"#,
+    )?;
     Ok(text)
 }
 
