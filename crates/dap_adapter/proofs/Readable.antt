@@ -94,7 +94,7 @@ answered-in-range r qs a w =
 answer-in-range : (n : ℕ) (r : Kept) (answer : Answer) (qs : List Asked) → AreAskedInRange qs → AnswersOne qs (response_at Came (Out (message_of n (reply r answer)) (names_of (reply r answer)))) → IsRequestInRange r
 answer-in-range n r (success body names) qs a w = answered-in-range r qs a w
 answer-in-range n r (failure f) qs a w = answered-in-range r qs a w
-answer-in-range n r (explained w) qs a w = answered-in-range r qs a w
+answer-in-range n r (explained told) qs a w = answered-in-range r qs a w
 
 moved : (before : List Entry) (e : Entry) (after all : List Entry) → before ++ e ∷ after ≡ all → (before ++ e ∷ []) ++ after ≡ all
 moved before e after all is = append_assoc before (e ∷ []) after ∙ is
