@@ -34,9 +34,13 @@ pub enum EventBody<'e> {
         more: &'e More,
     },
     /// Of `continued`: one thread goes on, and all others with it.
-    Continued { thread_id: i64 },
+    Continued {
+        thread_id: i64,
+    },
     /// Of `exited`, with the debuggee's exit code.
-    Exited { exit_code: i32 },
+    Exited {
+        exit_code: i32,
+    },
 }
 
 fn write_output(

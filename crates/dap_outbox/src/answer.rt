@@ -35,8 +35,12 @@ pub enum Event {
         thread: i64,
         more: More,
     },
-    Continued { thread: i64 },
-    Exited { code: i32 },
+    Continued {
+        thread: i64,
+    },
+    Exited {
+        code: i32,
+    },
     Terminated,
 }
 

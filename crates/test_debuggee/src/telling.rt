@@ -152,7 +152,10 @@ fn add_lines<D: Debuggee>(
 
 fn add_verified(told: &mut String, answers: &[Placement]) -> bool {
     for placed in answers {
-        if told.push_str(if placed.verified { "y" } else { "n" }).is_err() {
+        if told
+            .push_str(if placed.verified { "y" } else { "n" })
+            .is_err()
+        {
             return false;
         }
     }

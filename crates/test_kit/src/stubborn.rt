@@ -5,8 +5,8 @@ ghost use Rattle.test_kit.specs.Stubborn.{long_value};
 
 use dap_command::SourceKey;
 use dap_debuggee::{
-    Assigned, Debuggee, DebuggeeFault, Evaluation, Explanation, Frame, Happening, How,
-    Placement, RefusedQuery, Scope, Source, Thread, Variable,
+    Assigned, Debuggee, DebuggeeFault, Evaluation, Explanation, Frame, Happening, How, Placement,
+    RefusedQuery, Scope, Source, Thread, Variable,
 };
 use dap_json::Text;
 use dap_replay::Recorded;
