@@ -25,10 +25,11 @@ pub use adapter::{
 pub use adapter_handle::{AdapterHandle, YtAdapter};
 pub use adapter_layout::{YtAdapterSizes, yt_adapter_sizes_of};
 pub use adapter_state::{YtAdapterSeen, YtTarget, yt_adapter_state, yt_adapter_target};
-pub use beside::{yt_adapter_learned_with, yt_adapter_variable_with};
+pub use beside::{yt_adapter_learned_with, yt_adapter_output_with, yt_adapter_variable_with};
 pub use held_adapter::HeldAdapter;
 pub use no_value::yt_adapter_no_value;
 pub use telling::{
     yt_adapter_continued, yt_adapter_exited, yt_adapter_learned, yt_adapter_output,
-    yt_adapter_sources, yt_adapter_stopped, yt_adapter_variable, yt_adapter_variables,
+    yt_adapter_sources, yt_adapter_stopped, yt_adapter_stopped_with, yt_adapter_variable,
+    yt_adapter_variables,
 };

@@ -1,6 +1,7 @@
 -- What is dropped of what a host says of its debuggee, and why.
 -- This profile's choice: the trait's laws say what may happen in a state, and in which range.
-use Rattle.std.specs.Prelude.{◌≡◌, ℕ, ℤ, ◌+◌, nat_lt, nat_le, List, length, Option, Some, None, IsTrue, if◌then◌else◌, []}
+use Rattle.std.specs.Prelude.{◌≡◌, ℕ, ℤ, ◌+◌, nat_lt, nat_le, List, length, Option, Some, None, IsTrue, if◌then◌else◌}
+use Rattle.dap_json.specs.declared.more.Member.{Member}
 use Rattle.dap_debuggee.specs.Laws.{may_happen, is_short}
 use Rattle.dap_debuggee.specs.declared.answers.State.{State}
 use Rattle.dap_debuggee.specs.declared.answers.Happening.{Happening}
@@ -46,8 +47,8 @@ abbrev pub why_too_wide : MomentAlone → List RecordedSource → Option Dropped
 why_too_wide shows sources = if nat_le shows.sources (length sources) then None else Some TooManySources
 
 -- why a stop with this moment is not heard
-abbrev pub why_not_shown : State → List RecordedSource → List ℕ → ℤ → MomentAlone → Option Dropped
-why_not_shown state sources reason thread shows = first_of (why_dropped state (happening.Stopped reason thread [])) (why_too_wide shows sources)
+abbrev pub why_not_shown : State → List RecordedSource → List ℕ → ℤ → List Member → MomentAlone → Option Dropped
+why_not_shown state sources reason thread more shows = first_of (why_dropped state (happening.Stopped reason thread more)) (why_too_wide shows sources)
 
 -- why these sources do not come behind those of the debuggee
 abbrev pub why_no_room : List RecordedSource → List RecordedSource → Option Dropped
@@ -57,7 +58,7 @@ why_no_room more sources = if nat_le (length sources + length more) 65536 then N
 
 abbrev pub why_unheard : Coming → LiveState → Option Dropped
 why_unheard (coming.Output category text more) v = why_dropped v.state (happening.Output category text more)
-why_unheard (coming.Stopped reason thread shows later more) v = why_not_shown v.state v.sources reason thread shows
+why_unheard (coming.Stopped reason thread shows later more) v = why_not_shown v.state v.sources reason thread more shows
 why_unheard (coming.Continued thread) v = why_dropped v.state (happening.Continued thread)
 why_unheard (coming.Exited code) v = why_dropped v.state (happening.Exited code)
 why_unheard (coming.Learned text value holder more) v = None
