@@ -42,11 +42,15 @@ pub(crate) struct Toy {
 }
 
 impl Model for Toy {
+    ghost use Rattle.std.specs.Coded.{codes};
+    ghost use Rattle.dap_json.specs.Stored.{coded_data};
     ghost use Rattle.std.specs.Prelude.{option_map};
     ghost use Rattle.my_debugger.specs.ToyShown.{ToyState};
     ghost use Rattle.my_debugger.specs.ToyActs.{last_of};
 
     ghost Value = { ToyState };
+
+    ghost coded = { Prim.hlevel (codes, coded_data) };
 
     ghost view = { λ t. record {
       state = t.state;
