@@ -60,6 +60,7 @@ fn stop(alloc: Global, shows: Snapshot, later: bool) -> Option<Coming> {
         thread: 1,
         shows,
         later,
+        more: More::none(),
     })
 }
 
