@@ -13,8 +13,8 @@ pub returns-clause-fresh : goal.returns-clause-fresh
 returns-clause-fresh c = record {
   sources = c.in-Ok.sources;
   reads = c.in-Ok.ensures;
-  offers = c.in-Ok-2.offers;
-  offered = c.in-Ok-2.ensures.offers;
+  offers = c.in-Ok-read_offers.offers;
+  offered = c.in-Ok-read_offers.ensures.offers;
   stands = c.in_ok-adapter.ensures.stands;
   session = c.in_ok-adapter.ensures.session;
   debuggee = c.in_ok-adapter.ensures.debuggee ∙ c.open-live.ensures;
