@@ -561,8 +561,11 @@ impl Host {
         let Ok(text) = Text::copied(alloc, piece) else {
             return Err(AdapterFault::OutOfMemory);
         };
+        let Ok(category) = category.clone() else {
+            return Err(AdapterFault::OutOfMemory);
+        };
         let coming = Coming::Output {
-            category: *category,
+            category,
             text,
             more,
         };

@@ -4,7 +4,7 @@ use Rattle.serde_json.specs.Data.{Data, Items, no_items, item}
 use Rattle.serde_json.specs.Find.{as_str, as_bool, as_array}
 use Rattle.dap_json.specs.Numbers.{int_of, number_of}
 use Rattle.dap_debuggee.specs.declared.answers.Category.{Category as Place}
-use Rattle.dap_debuggee.specs.declared.answers.Category.TheVariants.{Console, Important, Stdout, Stderr, Telemetry}
+use Rattle.dap_debuggee.specs.declared.answers.Category.TheVariants.{Console, Important, Stdout, Stderr, Telemetry, Other}
 use Rattle.dap_debuggee.specs.declared.answers.Happening.{Happening}
 use Rattle.dap_debuggee.specs.declared.answers.Happening.TheVariants as happening
 use Rattle.dap_debuggee.specs.declared.answers.Variable.{Variable}
@@ -71,16 +71,16 @@ GivesList result read = Returns (λ xs. xs.items) SaysKey result read
 
 -- ---- values
 
-abbrev pub category_named : List ℕ → Option Place
+abbrev pub category_named : List ℕ → Place
 category_named name =
-    if bytes_eq name (codes "console") then Some Console else
-    (if bytes_eq name (codes "important") then Some Important else
-    (if bytes_eq name (codes "stdout") then Some Stdout else
-    (if bytes_eq name (codes "stderr") then Some Stderr else
-    (if bytes_eq name (codes "telemetry") then Some Telemetry else None))))
+    if bytes_eq name (codes "console") then Console else
+    (if bytes_eq name (codes "important") then Important else
+    (if bytes_eq name (codes "stdout") then Stdout else
+    (if bytes_eq name (codes "stderr") then Stderr else
+    (if bytes_eq name (codes "telemetry") then Telemetry else Other name))))
 
 abbrev pub category_of : Data → Option Place
-category_of d = option_and_then category_named (as_str d)
+category_of d = option_map category_named (as_str d)
 
 -- ---- variables
 

@@ -122,28 +122,27 @@ fn text_at(alloc: Global, told: &Value, key: HostKey) -> Result<Text, Unread>
     Ok(Text::copied(alloc, at(told, key).required_text()?)?)
 }
 
-fn category_named(name: &str) -> Option<Category>
-    ensures { result ≡ category_of_name name.now }
+fn category_named(alloc: Global, name: &str) -> Result<Category, AllocError>
+    ensures { IfOk result (λ category. category ≡ category_of_name name.now) }
 {
     match name {
-        "console" => Some(Category::Console),
-        "important" => Some(Category::Important),
-        "stdout" => Some(Category::Stdout),
-        "stderr" => Some(Category::Stderr),
-        "telemetry" => Some(Category::Telemetry),
-        _ => None,
+        "console" => Ok(Category::Console),
+        "important" => Ok(Category::Important),
+        "stdout" => Ok(Category::Stdout),
+        "stderr" => Ok(Category::Stderr),
+        "telemetry" => Ok(Category::Telemetry),
+        _ => Ok(Category::Other(Text::copied(alloc, name)?)),
     }
 }
 
 /// Where output belongs: to the console where nothing is said.
-fn category_in(told: &Value) -> Result<Category, Unread>
+fn category_in(alloc: Global, told: &Value) -> Result<Category, Unread>
     ensures { Gives result (optional_or category_of Category.Console HostKey.Category (view told.now)) }
 {
-    let Some(value) = at(told, HostKey::Category).found else {
-        return Ok(Category::Console);
-    };
-    let category = value.as_str().and_then(category_named);
-    Ok(category.ok_or(HostKey::Category)?)
+    match at(told, HostKey::Category).optional_text()? {
+        None => Ok(Category::Console),
+        Some(name) => Ok(category_named(alloc, name)?),
+    }
 }
 
 /// The value of what is learned, where it has one.
@@ -219,7 +218,7 @@ fn variables_of(alloc: Global, value: &Value) -> Result<List<Variable>, Unread>
 fn output_in(alloc: Global, told: &Value) -> Result<Told, Unread>
     ensures { Gives result (output_of (view told.now)) }
 {
-    let category = category_in(told)?;
+    let category = category_in(alloc, told)?;
     let text = text_at(alloc, told, HostKey::Output)?;
     let said = beside_in(alloc, told)?;
     let more = said?.unwrap_or(More::none());
@@ -472,7 +471,7 @@ pub fn happening_in(alloc: Global, told: &Told) -> Result<Happening, AllocError>
             text,
             more,
         } => Ok(Happening::Output {
-            category: *category,
+            category: category.clone()?,
             text: first_piece(alloc, text.as_str())?,
             more: more.clone()?,
         }),
