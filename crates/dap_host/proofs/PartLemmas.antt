@@ -2,6 +2,7 @@
 use Rattle.std.proofs.Common.{◌≡◌, ℕ, ◌<◌, ◌≤◌, ◌&&◌, nat_le, List, [], ◌∷◌, ◌++◌, length, map, take, drop, Bool, true, Option, Some, None, Result, Ok, Err, refl, sym, ap, ◌∙◌, subst, append-nil, append_assoc, arith}
 use Rattle.std.specs.Prelude.{IfOk, IfErr, OnOk}
 use Rattle.std.specs.List.{list_all}
+use Rattle.std.proofs.lemmas.Bool.{and_parts, and_from}
 use Rattle.dap_debuggee.specs.declared.answers.Category.{Category}
 use Rattle.dap_json.specs.declared.more.Member.{Member}
 use Rattle.dap_adapter.specs.AdapterState.{AdapterState}
@@ -14,10 +15,10 @@ use Rattle.dap_live.specs.declared.mail.Dropped.{Dropped as Drop}
 use Rattle.dap_plan.specs.Polling.{after_happening, has_debuggee}
 use Rattle.dap_plan.specs.Session.{Session}
 use Rattle.dap_plan.specs.declared.fault.AdapterFault.{AdapterFault}
-use Rattle.dap_recording.specs.Pieces.{piece_length, pieces}
+use Rattle.dap_recording.specs.Pieces.{piece_length, pieces, PiecesAreTheOutput}
 use Rattle.dap_recording.proofs.PieceLemmas.{next_piece}
 use Rattle.dap_host.specs.Hearing.{HostState, SameButAdapter, TellsIt, TellsInTurn, none_told, one_more, TellsUntil, all_told, until, StopsTelling, StopsWithin}
-use Rattle.dap_host.specs.Parts.{texts_told, outputs, outputs_alone}
+use Rattle.dap_host.specs.Parts.{texts_told, outputs, outputs_alone, OutputIsToldWhole}
 
 -- ---- a session in which output was told
 
@@ -138,3 +139,17 @@ pub none_left : (old : HostState) (category : Category) (text before left after 
 none_left old category text before left after there none p =
     let all : outputs_alone category (pieces (text ∷ [])) ≡ p.told = p.whole ∙ ap (λ (t : List ℕ). p.told ++ outputs_alone category (pieces (t ∷ []))) none ∙ append-nil p.told in
     all_told (subst (λ (cs : List Coming). TellsInTurn old before cs after there) (sym all) p.in_turn)
+
+-- ---- the whole of it
+
+short : (texts : List (List ℕ)) → list_all (λ piece. nat_le 1 (length piece) && nat_le (length piece) 128) texts ≡ true → list_all (λ piece. nat_le (length piece) 128) texts ≡ true
+short [] is = refl
+short (text ∷ texts) is =
+    let all = and_parts (nat_le 1 (length text) && nat_le (length text) 128) (list_all (λ piece. nat_le 1 (length piece) && nat_le (length piece) 128) texts) is in
+    and_from (nat_le (length text) 128) (list_all (λ piece. nat_le (length piece) 128) texts) (and_parts (nat_le 1 (length text)) (nat_le (length text) 128) all.0).1 (short texts all.1)
+
+pub told_whole : PiecesAreTheOutput → OutputIsToldWhole
+told_whole laws [] = (refl, refl)
+told_whole laws (c ∷ cs) =
+    let both = laws ((c ∷ cs) ∷ []) in
+    (both.0 ∙ append-nil (c ∷ cs), short (pieces ((c ∷ cs) ∷ [])) both.1)

@@ -79,8 +79,15 @@ category_named name =
     (if bytes_eq name (codes "stderr") then Stderr else
     (if bytes_eq name (codes "telemetry") then Telemetry else Other name))))
 
-abbrev pub category_of : Data → Option Place
-category_of d = option_map category_named (as_str d)
+-- output goes to the console where nothing is said
+abbrev pub category_of : Option (List ℕ) → Place
+category_of None = Console
+category_of (Some name) = category_named name
+
+unfoldable pub category_in : Data → Read Place
+category_in d = do
+  name ← optional_at as_str Category d
+  Ok (category_of name)
 
 -- ---- variables
 
@@ -105,10 +112,9 @@ variables_of (Some ds) = each_variable ds []
 
 -- ---- what is told, by its kind
 
--- output goes to the console where nothing is said
 unfoldable pub output_in : Data → Read Told
 output_in d = do
-  category ← optional_or category_of Console Category d
+  category ← category_in d
   text ← required_at as_str Output d
   said ← optional_at more_of More d
   Ok (told.Output category text (unwrap_or said []))

@@ -6,7 +6,7 @@ ghost use Rattle.dap_json.specs.Lent.{lent_data};
 ghost use Rattle.dap_json.specs.More.{more_of};
 ghost use Rattle.dap_json.specs.Numbers.{number_of};
 ghost use Rattle.dap_recording.specs.Pieces.{piece_length};
-ghost use Rattle.dap_line.specs.Told.{Gives, GivesList, Tells, value_at, required_at, optional_at, optional_or, category_of, category_named as category_of_name, variable_of, each_variable, variables_of as variables_of_items, variables_in as variables_told, learned_by as learned_of_key, loaded_in as loaded_of};
+ghost use Rattle.dap_line.specs.Told.{Gives, GivesList, Tells, value_at, required_at, optional_at, category_in as category_in_data, category_named as category_of_name, variable_of, each_variable, variables_of as variables_of_items, variables_in as variables_told, learned_by as learned_of_key, loaded_in as loaded_of};
 ghost use Rattle.dap_line.specs.Told.{output_in as output_of, stop_in as stop_of, continued_in as continued_of, exit_in as exit_of, learned_in as learned_of, no_value_in as no_value_of, text_by as text_of_keys, kind_named as kind_of_name, kind_of, told_in as told_of, happening_of, question_named as question_of_name, question_of, asked_in as asked_of, happened_in as happened_of, said_in as said_of};
 ghost use Rattle.std.specs.Option.{is_some};
 
@@ -136,8 +136,9 @@ fn category_named(alloc: Global, name: &str) -> Result<Category, AllocError>
 }
 
 /// Where output belongs: to the console where nothing is said.
+#[tactic(auto, unfolding(crate::specs::Told::category_in))]
 fn category_in(alloc: Global, told: &Value) -> Result<Category, Unread>
-    ensures { Gives result (optional_or category_of Category.Console HostKey.Category (view told.now)) }
+    ensures { Gives result (category_in_data (view told.now)) }
 {
     match at(told, HostKey::Category).optional_text()? {
         None => Ok(Category::Console),
