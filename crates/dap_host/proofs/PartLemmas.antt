@@ -1,8 +1,9 @@
 -- Parts of what happened, told one after the other.
-use Rattle.std.proofs.Common.{◌≡◌, ◌≢◌, ℕ, ◌<◌, ◌≤◌, ◌&&◌, nat_le, List, [], ◌∷◌, ◌++◌, length, map, take, drop, Bool, true, Option, Some, None, Result, Ok, Err, refl, sym, ap, ◌∙◌, subst, append-nil, append_assoc, arith}
+use Rattle.std.proofs.Common.{◌≡◌, ◌≢◌, ℕ, ◌<◌, ◌≤◌, ◌&&◌, nat_le, List, [], ◌∷◌, ◌++◌, length, map, take, drop, Bool, true, false, zero, suc, ◌==◌, true≢false, Option, Some, None, Result, Ok, Err, refl, sym, ap, ◌∙◌, subst, append-nil, append_assoc, arith}
 use Rattle.std.specs.Prelude.{IfOk, IfErr, OnOk}
 use Rattle.std.specs.List.{list_all}
 use Rattle.std.proofs.lemmas.Bool.{and_parts, and_from}
+use Rattle.std.proofs.lemmas.Bool.Decides.{nat_tests}
 use Rattle.dap_debuggee.specs.declared.answers.Category.{Category}
 use Rattle.dap_json.specs.declared.more.Member.{Member}
 use Rattle.dap_adapter.specs.AdapterState.{AdapterState}
@@ -10,7 +11,7 @@ use Rattle.dap_live.specs.Dropping.{why_unheard, unless_dropped}
 use Rattle.dap_live.specs.LiveShown.{LiveState}
 use Rattle.dap_live.specs.Hearing.{happening_by}
 use Rattle.dap_live.specs.declared.mail.Coming.{Coming}
-use Rattle.dap_live.specs.declared.mail.Coming.TheVariants.{Output}
+use Rattle.dap_live.specs.declared.mail.Coming.TheVariants.{Output, Stopped, Continued, Exited, Learned, NoValue, Variables, Sources}
 use Rattle.dap_live.specs.declared.mail.Dropped.{Dropped as Drop}
 use Rattle.dap_plan.specs.Polling.{after_happening, has_debuggee}
 use Rattle.dap_plan.specs.Session.{Session}
@@ -19,7 +20,7 @@ use Rattle.dap_plan.specs.declared.fault.AdapterFault.TheVariants.{OutOfMemory}
 use Rattle.dap_recording.specs.Pieces.{piece_length, pieces, PiecesAreTheOutput}
 use Rattle.dap_recording.proofs.PieceLemmas.{next_piece, left_shorter}
 use Rattle.dap_host.specs.Hearing.{HostState, SameButAdapter, TellsIt, TellsInTurn, none_told, one_more, TellsUntil, all_told, until, StopsTelling, StopsWithin}
-use Rattle.dap_host.specs.Parts.{texts_told, outputs, outputs_alone, OutputIsToldWhole}
+use Rattle.dap_host.specs.Parts.{parts_of, texts_told, outputs, outputs_alone, OutputIsToldWhole}
 
 -- ---- a session in which output was told
 
@@ -34,29 +35,34 @@ still_in_a_run h k category text more dropped before after tells run =
     let told = ap (λ (s : Session). has_debuggee s.phase) tells.fed.after in
     fetched ∙ told ∙ ap has_debuggee (phase_by (why_unheard (Output category text more) h.adapter.debuggee) category text more h.adapter.session) ∙ run
 
+pub runs_still : (h k : HostState) (category : Category) (text : List ℕ) (more : List Member) (before after : List ℕ) (r : Result (Option Drop) AdapterFault)
+    → IfOk r (λ dropped. TellsIt h (Output category text more) dropped before after k) → has_debuggee h.adapter.session.phase ≡ true → OnOk r (has_debuggee k.adapter.session.phase ≡ true)
+runs_still h k category text more before after (Ok dropped) tells run = still_in_a_run h k category text more dropped before after tells run
+runs_still h k category text more before after (Err fault) tells run = tt
+
 -- ---- parts in turn
 
 same_both : (a b c : HostState) → SameButAdapter a b → SameButAdapter b c → SameButAdapter a c
 same_both a b c x y = record { limits = y.limits ∙ x.limits; longest = y.longest ∙ x.longest; number = y.number ∙ x.number }
 
-same_in_turn : (old new : HostState) (parts : List Coming) (before after : List ℕ) → TellsInTurn old before parts after new → SameButAdapter old new
-same_in_turn old _ _ before _ none_told = record { limits = refl; longest = refl; number = refl }
-same_in_turn old _ _ before _ (one_more parts part middle after there new tells it) = same_both old there new (same_in_turn old there parts before middle tells) it.same
+same_in_turn : (old : HostState) (before : List ℕ) (new : HostState) (parts : List Coming) (after : List ℕ) → TellsInTurn old before parts after new → SameButAdapter old new
+same_in_turn old before _ _ _ none_told = record { limits = refl; longest = refl; number = refl }
+same_in_turn old before _ _ _ (one_more parts part middle after there new tells it) = same_both old there new (same_in_turn old before there parts middle tells) it.same
 
 pub same_until : (old new : HostState) (parts : List Coming) (before after : List ℕ) (dropped : Option Drop) → TellsUntil old parts before after new dropped → SameButAdapter old new
-same_until old new parts before after _ (all_told tells) = same_in_turn old new parts before after tells
-same_until old new parts before after _ (until told later part why middle there are tells it) = same_both old there new (same_in_turn old there told before middle tells) it.same
+same_until old new parts before after _ (all_told tells) = same_in_turn old before new parts after tells
+same_until old new parts before after _ (until told later part why middle there are tells it) = same_both old there new (same_in_turn old before there told middle tells) it.same
 
 -- behind a part that was told
-in_turn_behind : (h old new : HostState) (part : Coming) (parts : List Coming) (start before after : List ℕ) → TellsIt h part None start before old → TellsInTurn old before parts after new → TellsInTurn h start (part ∷ parts) after new
-in_turn_behind h old _ part _ start before _ it none_told = one_more [] part start before h old none_told it
-in_turn_behind h old _ part _ start before _ it (one_more parts last middle after there new tells more) =
-    one_more (part ∷ parts) last middle after there new (in_turn_behind h old there part parts start before middle it tells) more
+in_turn_behind : (h old : HostState) (part : Coming) (start before : List ℕ) (it : TellsIt h part None start before old) (parts : List Coming) (after : List ℕ) (new : HostState) → TellsInTurn old before parts after new → TellsInTurn h start (part ∷ parts) after new
+in_turn_behind h old part start before it _ _ _ none_told = one_more [] part start before h old none_told it
+in_turn_behind h old part start before it _ _ _ (one_more parts last middle after there new tells more) =
+    one_more (part ∷ parts) last middle after there new (in_turn_behind h old part start before it parts middle there tells) more
 
 pub until_behind : (h old new : HostState) (part : Coming) (parts : List Coming) (start before after : List ℕ) (dropped : Option Drop) → TellsIt h part None start before old → TellsUntil old parts before after new dropped → TellsUntil h (part ∷ parts) start after new dropped
-until_behind h old new part parts start before after _ it (all_told tells) = all_told (in_turn_behind h old new part parts start before after it tells)
+until_behind h old new part parts start before after _ it (all_told tells) = all_told (in_turn_behind h old part start before it parts after new tells)
 until_behind h old new part parts start before after _ it (until told later last why middle there are tells drops) =
-    until (part ∷ told) later last why middle there (ap (λ (cs : List Coming). part ∷ cs) are) (in_turn_behind h old there part told start before middle it tells) drops
+    until (part ∷ told) later last why middle there (ap (λ (cs : List Coming). part ∷ cs) are) (in_turn_behind h old part start before it told middle there tells) drops
 
 pub stops_behind : (h old new : HostState) (part : Coming) (parts : List Coming) (start before after : List ℕ) (fault : AdapterFault) → TellsIt h part None start before old → StopsWithin old parts before after new fault → StopsWithin h (part ∷ parts) start after new fault
 stops_behind h old new part parts start before after fault it s = record {
@@ -66,7 +72,7 @@ stops_behind h old new part parts start before after fault it s = record {
   parts_are = ap (λ (cs : List Coming). part ∷ cs) s.parts_are;
   middle = s.middle;
   there = s.there;
-  in_turn = in_turn_behind h old s.there part s.told start before s.middle it s.in_turn;
+  in_turn = in_turn_behind h old part start before it s.told s.middle s.there s.in_turn;
   stops = s.stops;
 }
 
@@ -143,6 +149,34 @@ none_left old category text before left after there none p =
 
 -- ---- what the calls give
 
+pub some_left : (n : ℕ) (none : Bool) → none ≡ (n == 0) → none ≡ false → 0 < n
+some_left zero none is some = absurd (true≢false (sym is ∙ some))
+some_left (suc n) none is some = omega arith
+
+pub nothing_left : (xs : List ℕ) (none : Bool) → none ≡ (length xs == 0) → none ≡ true → xs ≡ []
+nothing_left [] none is empty = refl
+nothing_left (x ∷ xs) none is empty = let none_is : length (x ∷ xs) ≡ 0 = grind (arith, nat_tests, is, empty) in absurd (omega (arith, none_is))
+
+-- what is no output is one part
+part_is : (c : Coming) → ((category : Category) (text : List ℕ) (more : List Member) → c ≡ Output category text more → ⊥) → parts_of c ≡ c ∷ []
+part_is (Output category text more) never = absurd (never category text more refl)
+part_is (Stopped reason thread shows later more) never = refl
+part_is (Continued thread) never = refl
+part_is (Exited code) never = refl
+part_is (Learned text value holder more) never = refl
+part_is (NoValue text why) never = refl
+part_is (Variables holder variables) never = refl
+part_is (Sources more) never = refl
+
+module _ (old new : HostState) (c : Coming) (before after : List ℕ) (never : (category : Category) (text : List ℕ) (more : List Member) → c ≡ Output category text more → ⊥) where
+  pub tells_one : (r : Result (Option Drop) AdapterFault) → IfOk r (λ dropped. TellsIt old c dropped before after new) → IfOk r (TellsUntil old (parts_of c) before after new)
+  tells_one (Ok dropped) it = subst (λ (cs : List Coming). TellsUntil old cs before after new dropped) (sym (part_is c never)) (one_part old new c before after dropped it)
+  tells_one (Err e) nothing = tt
+
+  pub stops_one : (r : Result (Option Drop) AdapterFault) → IfErr r (λ fault. fault ≢ OutOfMemory → StopsTelling old c before after new fault) → IfErr r (λ fault. fault ≢ OutOfMemory → StopsWithin old (parts_of c) before after new fault)
+  stops_one (Ok dropped) nothing = tt
+  stops_one (Err e) stops = λ some. subst (λ (cs : List Coming). StopsWithin old cs before after new e) (sym (part_is c never)) (stops_first old new c [] before after e (stops some))
+
 -- the first piece, and what is made of the rest
 module _ (old : HostState) (category : Category) (more : List Member) (text piece rest before middle : List ℕ) (n : ℕ) (there : HostState) (length_is : n ≡ piece_length text) (front : piece ≡ take n text) (back : rest ≡ drop n text) where
   parts : outputs category more (texts_told text) ≡ Output category piece more ∷ outputs_alone category (pieces (rest ∷ []))
@@ -174,21 +208,24 @@ module _ (old : HostState) (category : Category) (more : List Member) (text piec
 
 -- a further piece
 module _ (old : HostState) (category : Category) (text before left middle : List ℕ) (there : HostState) (part_way : PartWay old category text before left middle there) (some : 0 < length left) (piece rest : List ℕ)
-    (n : ℕ) (length_is : n ≡ piece_length left) (front : piece ≡ take n left) (back : rest ≡ drop n left) (new : HostState) (after : List ℕ) where
+    (n : ℕ) (length_is : n ≡ piece_length left) (front : piece ≡ take n left) (back : rest ≡ drop n left) (beside : List Member) (alone : beside ≡ []) (new : HostState) (after : List ℕ) where
   first_is : piece ≡ take (piece_length left) left
   first_is = front ∙ ap (λ (k : ℕ). take k left) length_is
 
   behind_is : rest ≡ drop (piece_length left) left
   behind_is = back ∙ ap (λ (k : ℕ). drop k left) length_is
 
-  pub goes_on_part_way : (dropped : Option Drop) → dropped ≡ None → TellsIt there (Output category piece []) dropped middle after new → PartWay old category text before rest after new
-  goes_on_part_way dropped none it = told_on old category text before left middle there part_way some piece rest first_is behind_is new after (subst (λ (d : Option Drop). TellsIt there (Output category piece []) d middle after new) none it)
+  alone_is : (dropped found : Option Drop) → dropped ≡ found → TellsIt there (Output category piece beside) dropped middle after new → TellsIt there (Output category piece []) found middle after new
+  alone_is dropped found is it = subst (λ (d : Option Drop). TellsIt there (Output category piece []) d middle after new) is (subst (λ (more : List Member). TellsIt there (Output category piece more) dropped middle after new) alone it)
 
-  pub until_part_way : (dropped : Option Drop) (why : Drop) → dropped ≡ Some why → TellsIt there (Output category piece []) dropped middle after new → TellsUntil old (outputs_alone category (pieces (text ∷ []))) before after new (Some why)
-  until_part_way dropped why is it = dropped_there old category text before left middle there part_way some piece rest first_is behind_is new after why (subst (λ (d : Option Drop). TellsIt there (Output category piece []) d middle after new) is it)
+  pub goes_on_part_way : (dropped : Option Drop) → dropped ≡ None → TellsIt there (Output category piece beside) dropped middle after new → PartWay old category text before rest after new
+  goes_on_part_way dropped none it = told_on old category text before left middle there part_way some piece rest first_is behind_is new after (alone_is dropped None none it)
 
-  pub stops_part_way : (fault : AdapterFault) → StopsTelling there (Output category piece []) middle after new fault → StopsWithin old (outputs_alone category (pieces (text ∷ []))) before after new fault
-  stops_part_way fault stops = stops_there old category text before left middle there part_way some piece rest first_is behind_is new after fault stops
+  pub until_part_way : (dropped : Option Drop) (why : Drop) → dropped ≡ Some why → TellsIt there (Output category piece beside) dropped middle after new → TellsUntil old (outputs_alone category (pieces (text ∷ []))) before after new (Some why)
+  until_part_way dropped why is it = dropped_there old category text before left middle there part_way some piece rest first_is behind_is new after why (alone_is dropped (Some why) is it)
+
+  pub stops_part_way : (fault : AdapterFault) → StopsTelling there (Output category piece beside) middle after new fault → StopsWithin old (outputs_alone category (pieces (text ∷ []))) before after new fault
+  stops_part_way fault stops = stops_there old category text before left middle there part_way some piece rest first_is behind_is new after fault (subst (λ (more : List Member). StopsTelling there (Output category piece more) middle after new fault) alone stops)
 
   pub shorter : length rest < length left
   shorter = subst (λ (xs : List ℕ). length xs < length left) (sym behind_is) (left_shorter left some)
