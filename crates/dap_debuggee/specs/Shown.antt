@@ -1,5 +1,5 @@
 -- What a debuggee shows in a view: where it stands, what it was last asked, and what it answers to each query.
-use Rattle.std.specs.Prelude.{ℕ, ℤ, Bool, List, [], take, drop, nat_lt, codes, Option, None, if◌then◌else◌}
+use Rattle.std.specs.Prelude.{◌≡◌, ℕ, ℤ, Bool, List, [], take, drop, nat_lt, codes, Option, None, if◌then◌else◌}
 use Rattle.dap_command.specs.declared.source_key.SourceKey.{SourceKey}
 use Rattle.dap_debuggee.specs.declared.answers.State.{State}
 use Rattle.dap_debuggee.specs.declared.answers.How.{How}
@@ -105,6 +105,10 @@ pub record Shown : Type 0 where
   pub verify : SourceKey → List ℕ → Option (List Placement)
   -- why a query is refused, where that is said; no law speaks of it
   pub why : Query → Option Explanation
+
+-- the second shows what the first does, but for where breakpoints are
+abbrev pub SameButPlaces : Shown → Shown → Type 0
+SameButPlaces v w = w ≡ record v { verify = w.verify }
 
 -- a breakpoint that is where it was asked for
 abbrev pub as_asked : Bool → ℕ → Placement

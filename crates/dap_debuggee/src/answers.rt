@@ -191,6 +191,21 @@ pub struct Source {
     pub more: More,
 }
 
+impl Clone for Placement {
+    ghost use Rattle.std.specs.Prelude.{◌≡◌};
+
+    ghost is_clone = { λ a b. b ≡ a };
+
+    fn clone(&self) -> Result<Placement, AllocError> {
+        Ok(Placement {
+            verified: self.verified,
+            line: self.line,
+            message: self.message.clone()?,
+            more: self.more.clone()?,
+        })
+    }
+}
+
 impl Placement {
     ghost use Rattle.dap_debuggee.specs.Shown.{as_asked};
 

@@ -21,7 +21,8 @@ use Rattle.dap_live.specs.declared.mail.Dropped.{Dropped as Drop}
 use Rattle.dap_live.specs.declared.mail.Dropped.TheVariants.{OutOfTurn, TooManySources}
 use Rattle.dap_live.specs.declared.mail.HostAct.{HostAct}
 use Rattle.dap_live.specs.MailState.{no_mail, with_coming}
-use Rattle.dap_host.specs.Fed.{AnswersFed, TellsFed, over_mail}
+use Rattle.dap_live.specs.declared.mail.Placed.{Placed}
+use Rattle.dap_host.specs.Fed.{AnswersFed, TellsFed, mail_placing, over_mail}
 use Rattle.dap_envelope.specs.Refusals.{Bad}
 use Rattle.dap_envelope.specs.declared.message.Message.{Message}
 use Rattle.dap_json.specs.Read.{json_of}
@@ -42,19 +43,21 @@ use Rattle.dap_host.specs.declared.host.Mark.{Mark}
 use Rattle.dap_host.specs.declared.host.Mark.TheVariants as mark
 use Rattle.dap_line.specs.declared.refusal.Refusal.{Refusal}
 use Rattle.dap_line.specs.declared.refusal.Refusal.TheVariants.{TooLong, BadLine, Body, BodyTooLong, Ended, Dropped}
-use Rattle.dap_line.specs.declared.told.Said.TheVariants.{Happened, Target}
+use Rattle.dap_line.specs.declared.told.Said.TheVariants.{Happened, Placed as SaidPlaced, Target}
 use Rattle.dap_line.specs.declared.told.Told.{Told}
 use Rattle.dap_line.specs.declared.told.Unread.{Unread}
 use Rattle.dap_line.specs.declared.told.Unread.TheVariants.{Refused, OutOfMemory as NoMemory}
 
 -- ---- a host
 
--- the adapter, the limits, how many bytes a line may have, and how many lines came
+-- the adapter, the limits, how many bytes a line may have, how many lines came, and what was said of breakpoints
 pub record HostState : Type 0 where
   pub adapter : AdapterState LiveState
   pub limits : Settings
   pub longest : ℕ
   pub number : ℕ
+  -- where the host said that breakpoints are which the next message is to set
+  pub placed : Option Placed
 
 -- the sources over which moments are read: those of the debuggee
 abbrev pub sources_there : HostState → List RecordedSource
@@ -81,6 +84,7 @@ pub record IsFresh (limits : Settings) (longest : ℕ) (bytes : List ℕ) (h : H
   pub limits_are : h.limits ≡ limits
   pub longest_is : h.longest ≡ longest
   pub number : h.number ≡ 0
+  pub none_placed : h.placed ≡ None
 
 -- why a file is refused
 abbrev pub RefusesFile : Settings → List ℕ → FileFault → Type 0
@@ -91,11 +95,15 @@ RefusesFile limits bytes (Offers fault) = RefusesOffers limits (file_offers byte
 abbrev pub counted : HostState → HostState
 counted h = record h { number = saturating_count (h.number + 1) }
 
+abbrev pub with_placed : Option Placed → HostState → HostState
+with_placed placed h = record h { placed = placed }
+
 -- all but the adapter is the same
 pub record SameButAdapter (old new : HostState) : Type 0 where
   pub limits : new.limits ≡ old.limits
   pub longest : new.longest ≡ old.longest
   pub number : new.number ≡ old.number
+  pub placed : new.placed ≡ old.placed
 
 -- ---- refusals
 
@@ -163,13 +171,14 @@ dropped_line number (Some why) = refusal_line number (Dropped why)
 -- ---- what is done
 
 -- The adapter takes a message, and answers it: the lines of all that it writes for it, and then those of the acts that the debugger has to do.
+-- Breakpoints that it sets are where the host said; that is of this message alone.
 pub record AnswersMessage (old : HostState) (body before after : List ℕ) (new : HostState) : Type 0 where
   pub bytes : List ℕ
   pub acts : List HostAct
-  pub fed : AnswersFed old.adapter body bytes acts new.adapter
+  pub fed : AnswersFed old.adapter old.placed body bytes acts new.adapter
   pub taken : fed.answers.runs_on.bodies ≡ body ∷ []
   pub lines : after ≡ before ++ (message_lines fed.answers.outs ++ act_lines acts)
-  pub same : SameButAdapter old new
+  pub same : SameButAdapter (with_placed None old) new
 
 -- the adapter tells what comes: the lines of all that it writes then
 pub record TellsIt (old : HostState) (c : Coming) (dropped : Option Drop) (before after : List ℕ) (new : HostState) : Type 0 where
@@ -182,6 +191,11 @@ pub record TellsIt (old : HostState) (c : Coming) (dropped : Option Drop) (befor
 pub record AnswersTarget (old : HostState) (number : ℕ) (before after : List ℕ) (new : HostState) : Type 0 where
   pub line : after ≡ before ++ target_line number (target_of old.adapter.session.references number)
   pub same : new ≡ old
+
+-- where breakpoints are is kept for the next message, in place of what was said before, and nothing else has changed
+pub record KeepsPlaced (old : HostState) (placed : Placed) (before after : List ℕ) (new : HostState) : Type 0 where
+  pub none : after ≡ before
+  pub kept : new ≡ with_placed (Some placed) old
 
 -- where the debuggee drops after all what was told, the line is refused behind them, for just that reason
 pub record TellsOrDrops (old : HostState) (c : Coming) (before after : List ℕ) (new : HostState) : Type 0 where
@@ -196,6 +210,7 @@ pub data HearsMessage (old : HostState) (body before after : List ℕ) (new : Ho
 
 pub data HearsHappening (old : HostState) (text before after : List ℕ) (new : HostState) : Type 0 where
   not_heard : (why : Refusal) → RefusesTold old text why → Refuses old why before after new → HearsHappening old text before after new
+  placed : (where : Placed) → said_of text ≡ Ok (SaidPlaced where) → KeepsPlaced old where before after new → HearsHappening old text before after new
   asked : (number : ℕ) → said_of text ≡ Ok (Target number) → AnswersTarget old number before after new → HearsHappening old text before after new
   heard : (coming : Coming) → HearsTold old text coming → TellsOrDrops old coming before after new → HearsHappening old text before after new
 
@@ -234,7 +249,7 @@ HearsLonger old before after new = (line : List ℕ) → old.longest < length li
 
 pub record StopsMessage (old : HostState) (body before after : List ℕ) (new : HostState) (fault : AdapterFault) : Type 0 where
   pub bytes : List ℕ
-  pub stops : StopsAfter shown_live FollowsLive old.adapter to_take (frame_of body) [] fault new.adapter bytes
+  pub stops : StopsAfter shown_live FollowsLive (over_mail (mail_placing old.placed) old.adapter) to_take (frame_of body) [] fault new.adapter bytes
   pub lines : after ≡ before ++ message_lines stops.outs
 
 pub record StopsTelling (old : HostState) (c : Coming) (before after : List ℕ) (new : HostState) (fault : AdapterFault) : Type 0 where

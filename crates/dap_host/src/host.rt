@@ -20,7 +20,7 @@ use dap_line::{
     Refusal, Said, Told, Unread, body_refusal, coming_of, happening_in, push_acts, push_refusal,
     push_target, read_said,
 };
-use dap_live::{Coming, Dropped, HostAct, Live, why_dropped};
+use dap_live::{Coming, Dropped, HostAct, Live, Placed, why_dropped};
 use dap_recording::{RecordingFault, Sources, Texts};
 use std::alloc::{AllocError, Global};
 use std::marker::Model;
@@ -118,6 +118,8 @@ pub struct Host {
     longest: usize,
     /// How many lines came.
     number: u64,
+    /// Where breakpoints are that the next message is to set.
+    placed: Option<Placed>,
     /// For what lines say.
     scratch: Scratch,
 }
@@ -131,7 +133,7 @@ impl Model for Host {
 
     ghost coded = { Prim.hlevel (codes, coded_data) };
 
-    ghost view = { λ h. record { adapter = h.adapter; limits = h.limits; longest = h.longest; number = h.number } };
+    ghost view = { λ h. record { adapter = h.adapter; limits = h.limits; longest = h.longest; number = h.number; placed = h.placed } };
 }
 
 impl Host {
@@ -185,6 +187,7 @@ impl Host {
             limits,
             longest,
             number: 0,
+            placed: None,
             scratch: Scratch::new(alloc),
         })
     }
@@ -328,7 +331,8 @@ impl Host {
         limits_are_in_range(&self.limits);
         bodies_come_one_by_one::<Live>();
         let mut bytes = Vec::new(alloc);
-        match answer_fed(alloc, &mut self.adapter, body, &mut bytes) {
+        let placed = std::mem::replace(&mut self.placed, None);
+        match answer_fed(alloc, &mut self.adapter, placed, body, &mut bytes) {
             Ok(acts) => hand_out(alloc, &bytes, &acts, out),
             Err(fault) => Err(break_off(&bytes, fault, out)),
         }
@@ -362,6 +366,10 @@ impl Host {
     {
         match read_said(alloc, &mut self.scratch, text) {
             Ok(Said::Happened(told)) => self.hear_told(alloc, text, told, out),
+            Ok(Said::Placed(placed)) => {
+                self.placed = Some(placed);
+                Ok(())
+            }
             Ok(Said::Target(number)) => self.answer_target(alloc, number, out),
             Err(Unread::Refused(why)) => self.refuse(why, out),
             Err(Unread::OutOfMemory) => Err(AdapterFault::OutOfMemory),

@@ -7,6 +7,7 @@
 mod acts;
 mod messages;
 mod moments;
+mod places;
 mod reading;
 mod refusal;
 mod targets;

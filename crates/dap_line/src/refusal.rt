@@ -30,6 +30,13 @@ pub enum HostKey {
     More,
     Why,
     ShowUser,
+    Placed,
+    Path,
+    SourceReference,
+    Breakpoints,
+    Line,
+    Verified,
+    Message,
 }
 
 impl HostKey {
@@ -59,6 +66,13 @@ impl HostKey {
             HostKey::More => "more",
             HostKey::Why => "why",
             HostKey::ShowUser => "showUser",
+            HostKey::Placed => "placed",
+            HostKey::Path => "path",
+            HostKey::SourceReference => "sourceReference",
+            HostKey::Breakpoints => "breakpoints",
+            HostKey::Line => "line",
+            HostKey::Verified => "verified",
+            HostKey::Message => "message",
         }
     }
 }

@@ -9,12 +9,14 @@ ghost use Rattle.dap_line.specs.Told.{Gives, GivesList, Tells, value_at, require
 ghost use Rattle.dap_line.specs.Told.{output_in as output_of, stop_in as stop_of, continued_in as continued_of, exit_in as exit_of, learned_in as learned_of, no_value_in as no_value_of, text_by as text_of_keys, kind_named as kind_of_name, kind_of, told_in as told_of, happening_of, question_named as question_of_name, question_of, asked_in as asked_of, happened_in as happened_of, said_in as said_of};
 ghost use Rattle.std.specs.Option.{is_some};
 
+use crate::places::placed_in;
 use crate::reading::read_value;
 use crate::refusal::{HostKey, Refusal};
 use dap_debuggee::{Category, Explanation, Happening, Variable};
 use dap_json::object_reader::Scratch;
 use dap_json::property::Property;
 use dap_json::{List, More, ParseFault, Text, Tree, field};
+use dap_live::Placed;
 use dap_recording::numbers;
 use serde_json::Value;
 use std::alloc::{AllocError, AllocFailed, Global};
@@ -59,10 +61,12 @@ pub enum Told {
     },
 }
 
-/// What a host says: what it tells, or a question.
+/// What a host says: what it tells, where breakpoints are, or a question.
 #[derive(Drop)]
 pub enum Said {
     Happened(Told),
+    /// Where those are that are to be set next at these lines of the source.
+    Placed(Placed),
     /// What a number of the client names.
     Target(u32),
 }
@@ -106,7 +110,7 @@ impl From<HostKey> for Unread {
 }
 
 /// What stands at a key of an object. `null` counts as absent.
-fn at<'v>(told: &'v Value, key: HostKey) -> Property<'v, HostKey>
+pub(crate) fn at<'v>(told: &'v Value, key: HostKey) -> Property<'v, HostKey>
     ensures key { result.key ≡ key }
     ensures found { lent_data result.found ≡ value_at key (view told.now) }
 {
@@ -156,7 +160,7 @@ fn value_in(alloc: Global, told: &Value) -> Result<Option<Text>, Unread>
 }
 
 /// What is said beside a variable or a value, where something is.
-fn beside_in(alloc: Global, told: &Value) -> Result<Result<Option<More>, HostKey>, AllocError>
+pub(crate) fn beside_in(alloc: Global, told: &Value) -> Result<Result<Option<More>, HostKey>, AllocError>
     ensures { IfOk result (λ said. said ≡ optional_at more_of HostKey.More (view told.now)) }
 {
     let Some(found) = at(told, HostKey::More).found else {
@@ -426,18 +430,22 @@ fn happened_in(alloc: Global, said: &mut Value) -> Result<Said, Unread>
     Ok(Said::Happened(told))
 }
 
-fn is_question(said: &Value) -> bool
-    ensures { result ≡ is_some (value_at HostKey.Asked (view said.now)) }
+/// Whether something stands at a key.
+fn is_there(said: &Value, key: HostKey) -> bool
+    ensures { result ≡ is_some (value_at key (view said.now)) }
 {
-    at(said, HostKey::Asked).found.is_some()
+    at(said, key).found.is_some()
 }
 
-/// What is said: a question where there is one, else what happened.
+/// What is said: a question where there is one, else where breakpoints are where that is said, else what happened.
 fn said_in(alloc: Global, said: &mut Value) -> Result<Said, Unread>
     ensures { Gives result (said_of (view said.old)) }
 {
-    if is_question(said) {
+    if is_there(said, HostKey::Asked) {
         return asked_in(said);
+    }
+    if is_there(said, HostKey::Placed) {
+        return placed_in(alloc, said);
     }
     happened_in(alloc, said)
 }

@@ -1,6 +1,6 @@
 -- What an act answers and leaves of a debuggee that a host feeds, and that each law of every debuggee is kept, whatever the host tells.
 use Rattle.std.proofs.Common.{◌≡◌, ℕ, ℤ, ◌+◌, ◌%◌, ◌^◌, Bool, true, false, nat_eq, bytes_eq, List, [], length, map, Option, Some, None, option_map, IsTrue, if◌then◌else◌, refl, sym, ap, subst, ◌∙◌, true≢false}
-use Rattle.std.proofs.lemmas.Bool.{eqb-true}
+use Rattle.std.proofs.lemmas.Bool.{eqb-true, and_parts}
 use Rattle.std.specs.Prelude.{option_and_then, unwrap_or}
 use Rattle.std.specs.List.{slice_get}
 use Rattle.std.specs.Option.{IsSome}
@@ -17,6 +17,8 @@ use Rattle.dap_debuggee.specs.declared.answers.Happening.{Happening}
 use Rattle.dap_debuggee.specs.declared.answers.Happening.TheVariants as happening
 use Rattle.dap_debuggee.specs.declared.answers.Variable.{Variable}
 use Rattle.dap_debuggee.specs.declared.answers.Assigned.{Assigned}
+use Rattle.dap_debuggee.specs.declared.answers.Placement.{Placement}
+use Rattle.dap_command.specs.SameSource.{is_source}
 use Rattle.dap_recording.specs.Sources.{source_shown, text_at, lines_verified}
 use Rattle.dap_recording.specs.SourceLaws.{shown-stay, texts-stay, each-verified}
 use Rattle.dap_recording.specs.Variables.{with_variables, variables_at, first_of, assigned_of}
@@ -32,6 +34,8 @@ use Rattle.dap_live.specs.declared.mail.Dropped.{Dropped}
 use Rattle.dap_live.specs.declared.mail.Dropped.TheVariants.{OutOfTurn, OutOfRange}
 use Rattle.dap_live.specs.declared.mail.HostAct.TheVariants as act
 use Rattle.dap_live.specs.MailState.{MailState, with_act, with_end}
+use Rattle.dap_live.specs.Placing.{is_of, placements_or, placements_in}
+use Rattle.dap_live.specs.declared.mail.Placed.{Placed}
 use Rattle.dap_live.specs.Dropping.{why_dropped, why_not_more, why_untold, why_too_wide, why_unheard, unless_dropped}
 use Rattle.dap_live.specs.Hearing.{happening_by, why_not_heard, told_by, learned_by, with_told, here_with, here_by, sources_with, sources_by}
 use Rattle.dap_live.specs.LiveShown.{LiveState, shown_live, now_shown, threads_in, frames_in, scopes_in, children_in, evaluation_in, told_of, evaluated, assigned_by}
@@ -105,7 +109,7 @@ abbrev pub mail_after : Act → Reply → LiveState → MailState
 mail_after to_start done v = with_act act.Start v.mail
 mail_after (to_resume how thread) done v = with_act (act.Resume how thread) v.mail
 mail_after to_pause done v = with_act act.Pause v.mail
-mail_after to_poll reply v = record { coming = None; acts = v.mail.acts; dropped = why_not_heard v.mail.coming v }
+mail_after to_poll reply v = record v.mail { coming = None; dropped = why_not_heard v.mail.coming v }
 mail_after (to_set_breakpoints source lines) reply v = with_act (act.SetBreakpoints source lines) v.mail
 mail_after (to_assign holder name text) reply v = with_act (act.Assign holder name (assigned_for holder name text v).value) v.mail
 mail_after to_end reply v = with_end v.mail
@@ -501,6 +505,27 @@ sources_stay_by v w to_end are = list_stays v w are
 pub keeps_sources-live : KeepsSources shown_live FollowsLive
 keeps_sources-live v w a r f = sources_stay_by v w a (ap (λ (u : LiveState). u.sources) f.view)
 
+-- no act takes away where the host said that breakpoints are
+placed_stays : (a : Act) (r : Reply) (v : LiveState) → (mail_after a r v).placed ≡ v.mail.placed
+placed_stays to_start done v = refl
+placed_stays to_start refused v = refl
+placed_stays to_start (happened h) v = refl
+placed_stays (to_resume how thread) done v = refl
+placed_stays (to_resume how thread) refused v = refl
+placed_stays (to_resume how thread) (happened h) v = refl
+placed_stays to_pause done v = refl
+placed_stays to_pause refused v = refl
+placed_stays to_pause (happened h) v = refl
+placed_stays to_poll r v = refl
+placed_stays (to_set_breakpoints source lines) r v = refl
+placed_stays (to_assign holder name text) r v = refl
+placed_stays to_end r v = refl
+
+same_places : (v w : LiveState) (a : Act) (r : Reply) → FollowsLive v a r w → w.sources ≡ v.sources → (source : SourceKey) (lines : List ℕ) → (shown_live w).verify source lines ≡ (shown_live v).verify source lines
+same_places v w a r f same source lines =
+    let placed : w.mail.placed ≡ v.mail.placed = ap (λ (u : LiveState). u.mail.placed) f.view ∙ placed_stays a r v in
+    ap (λ xs. Some (placements_in w.mail.placed xs source lines)) same ∙ ap (λ p. Some (placements_in p v.sources source lines)) placed
+
 pub keeps_answers-live : KeepsAnswers shown_live FollowsLive
 keeps_answers-live v w a r f k =
     let same : now_shown w.state w.here ≡ now_shown v.state v.here = same_shown v w a r f k in
@@ -514,14 +539,22 @@ keeps_answers-live v w a r f k =
       assigned = λ holder name text. ap (λ l. assigned_by (told_of l text) name (children_in (now_shown w.state w.here) holder)) known
           ∙ ap (λ o. assigned_by (told_of v.learned text) name (children_in o holder)) same;
       sources = same_sources v w sources;
-      verify = λ source lines. ap (λ xs. Some (lines_verified xs source lines)) sources;
+      verify = same_places v w a r f sources;
     }
 
 pub no_threads-live : NoThreads shown_live
 no_threads-live v = (λ is. ap (λ s. threads_in (now_shown s v.here)) is, λ is. ap (λ s. threads_in (now_shown s v.here)) is)
 
+each_of : (b : Bool) (p : Placed) (source : SourceKey) (lines : List ℕ) (others : List Placement) → is_of source lines p ≡ b → length others ≡ length lines → length (placements_or others (if b then Some p else None)) ≡ length lines
+each_of true p source lines others is each = eqb-true (length p.placements) (length lines) (and_parts (bytes_eq lines p.lines) _ (and_parts (is_source p.source source) _ is).1).1
+each_of false p source lines others is each = each
+
+each-placed : (placed : Option Placed) (sources : List RecordedSource) (source : SourceKey) (lines : List ℕ) → length (placements_in placed sources source lines) ≡ length lines
+each-placed None sources source lines = each-verified sources source lines
+each-placed (Some p) sources source lines = each_of (is_of source lines p) p source lines (lines_verified sources source lines) refl (each-verified sources source lines)
+
 pub verifies_each-live : VerifiesEach shown_live
-verifies_each-live v source lines answers is = sym (ap (λ o. length (unwrap_or o [])) is) ∙ each-verified v.sources source lines
+verifies_each-live v source lines answers is = sym (ap (λ o. length (unwrap_or o [])) is) ∙ each-placed v.mail.placed v.sources source lines
 
 there_by : (value : Option (List ℕ)) (more : Option (List Member)) (name : List ℕ) (o : Option (List Variable)) → IsSome (option_and_then (λ text. assigned_of name text more o) value) → IsSome (option_and_then (variable_named name) o)
 there_by None more name o h = absurd (cc h)
@@ -602,6 +635,6 @@ sets_values-live v w holder name text r f =
             ∙ ap (assigned_by (told_of v.learned given) called) (children h)
             ∙ same_assigned v.learned text given (nat_eq h holder) (children_in before h) there name called a told (λ e. ap (children_in before) (eqb-true h holder e));
         sources = same_sources v w sources;
-        verify = λ source lines. ap (λ xs. Some (lines_verified xs source lines)) sources;
+        verify = same_places v w (to_assign holder name text) r f sources;
       };
     }

@@ -671,7 +671,10 @@ impl Debuggee for Live {
         source: &SourceKey,
         lines: &[u32],
     ) -> Result<Vec<Placement>, DebuggeeFault> {
-        Ok(self.sources.verify(alloc, source, lines)?)
+        match self.mail.placed_at(source, lines) {
+            Some(placed) => Ok(placed.copied(alloc)?),
+            None => Ok(self.sources.verify(alloc, source, lines)?),
+        }
     }
 
     fn why(

@@ -9,7 +9,7 @@ ghost use Rattle.dap_live.specs.MailState.{is_end as is_the_end};
 ghost use Rattle.dap_live.specs.PrivateHeld.{acts_held};
 
 use dap_command::SourceKey;
-use dap_debuggee::{Category, Explanation, How, Variable};
+use dap_debuggee::{Category, Explanation, How, Placement, Variable};
 use dap_json::{List, More, Text};
 use dap_recording::{Snapshot, Sources};
 use std::alloc::{AllocError, Global};
@@ -72,6 +72,15 @@ pub enum Coming {
     Sources(Sources),
 }
 
+/// Where breakpoints are that are to be set at these lines of a source, one for each, in order.
+#[derive(Drop)]
+pub struct Placed {
+    pub source: SourceKey,
+    /// Counted from 1.
+    pub lines: List<u32>,
+    pub placements: List<Placement>,
+}
+
 /// What the host has to do.
 #[derive(Drop)]
 pub enum HostAct {
@@ -111,10 +120,12 @@ pub enum Dropped {
     TooManyHolders,
 }
 
-/// What a host and its debuggee leave for each other. A contract sees what came, the acts in order, and why what came is dropped.
+/// What a host and its debuggee leave for each other. A contract sees what came, where breakpoints are, the acts in order, and
+/// why what came is dropped.
 #[derive(Drop)]
 pub struct Mail {
     coming: Option<Coming>,
+    placed: Option<Placed>,
     acts: Vec<HostAct>,
     /// Behind them comes the end. It takes no memory to say so.
     is_to_end: bool,
@@ -131,7 +142,7 @@ impl Model for Mail {
 
     ghost coded = { Prim.hlevel (codes, coded_data) };
 
-    ghost view = { λ m. record { coming = m.coming; acts = acts_held m.acts.items m.is_to_end; dropped = m.dropped } };
+    ghost view = { λ m. record { coming = m.coming; placed = m.placed; acts = acts_held m.acts.items m.is_to_end; dropped = m.dropped } };
 }
 
 fn is_end(act: &HostAct) -> bool
@@ -165,8 +176,9 @@ fn put_end(acts: &mut Vec<HostAct>, is_to_end: &mut bool) -> Result<(), AllocErr
 }
 
 impl Mail {
-    ghost use Rattle.std.specs.Prelude.{◌≡◌, None, IfOk, OnOk, OnErr};
-    ghost use Rattle.dap_live.specs.MailState.{MailState, no_mail, with_coming, without_coming, with_dropped, without_acts, with_act, with_end};
+    ghost use Rattle.std.specs.Prelude.{◌≡◌, None, IfOk, OnOk, OnErr, option_map};
+    ghost use Rattle.dap_live.specs.MailState.{MailState, no_mail, with_coming, with_placed, without_coming, with_dropped, without_acts, with_act, with_end};
+    ghost use Rattle.dap_live.specs.Placing.{placed_at};
 
     /// There is nothing.
     pub fn new(alloc: Global) -> Mail
@@ -174,6 +186,7 @@ impl Mail {
     {
         Mail {
             coming: None,
+            placed: None,
             acts: Vec::new(alloc),
             is_to_end: false,
             dropped: None,
@@ -186,6 +199,24 @@ impl Mail {
     {
         self.coming = Some(coming);
         self.dropped = None;
+    }
+
+    /// Leaves where breakpoints are, in place of what the host said of that before. It is what `verify` answers of just that
+    /// source and those lines as long as this mail is there; where there are more or fewer places than lines, it is of none.
+    pub fn place(&mut self, placed: Option<Placed>)
+        ensures { self.new ≡ with_placed placed self.old }
+    {
+        self.placed = placed;
+    }
+
+    /// Where breakpoints are that are to be set at these lines of a source, where the host said that.
+    pub(crate) fn placed_at(&self, source: &SourceKey, lines: &[u32]) -> Option<&Placed>
+        ensures { option_map (λ p. p.now) result ≡ placed_at self.now.placed source.now lines.now }
+    {
+        match &self.placed {
+            Some(placed) if placed.is_of(source, lines) => Some(placed),
+            _ => None,
+        }
     }
 
     /// Takes what the host left, where the debuggee has not been asked since.

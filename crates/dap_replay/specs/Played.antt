@@ -6,7 +6,7 @@ use Rattle.std.specs.Option.{IsSome}
 use Rattle.dap_command.specs.declared.source_key.SourceKey.{SourceKey}
 use Rattle.dap_debuggee.specs.Shown.{Shown, Act, to_start, to_resume, to_pause, to_poll, to_set_breakpoints, to_assign, to_end, Reply, done, refused, happened, asked_of_act, Last}
 use Rattle.dap_debuggee.specs.Laws.{variable_named, with_assigned}
-use Rattle.dap_recording.specs.Recording.{id_at}
+use Rattle.dap_recording.specs.Recording.{id_at, beside_stop}
 use Rattle.dap_recording.specs.Reading.{IsVerdict}
 pub use Rattle.dap_recording.specs.Snapshot.{is_in, thread_shown}
 use Rattle.dap_recording.specs.Snapshot.{if_in, frames_in}
@@ -138,9 +138,9 @@ with_text name text xs = unwrap_or (option_map (λ a. with_assigned name a xs) (
 abbrev pub after_assign : ℕ → List ℕ → List ℕ → Played → Played
 after_assign holder name text v = with_changed (with_variables holder (with_text name text (unwrap_or (variables_held v holder) [])) v.changed) v
 
--- a stop at the end of a move, with the thread that stands there
+-- a stop at the end of a move, with the thread that stands there, and what the moment says beside
 abbrev pub stop_of : List Moment → Move → Happening
-stop_of moments move = happening.Stopped (stop_at moments move).reason (unwrap_or (option_map id_at (slice_get moments move.to)) (pos 0)) []
+stop_of moments move = happening.Stopped (stop_at moments move).reason (unwrap_or (option_map id_at (slice_get moments move.to)) (pos 0)) (beside_stop (stop_at moments move))
 
 -- the end of a run, once all is written: held, stopped or gone
 abbrev pub end_of_run : Run → Played → Happening × Played

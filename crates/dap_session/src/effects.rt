@@ -162,7 +162,7 @@ impl<D: Debuggee + Drop> Session<D> {
         self.begin(out);
         let offers = self.offers();
         let body = body_of_offer(offers)?;
-        out.reply_with(alloc, request, body)
+        out.reply_with(alloc, request, Some(body))
     }
 
     /// The same, and that the session is initialized.

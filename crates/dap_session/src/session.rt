@@ -133,6 +133,13 @@ impl<D: Debuggee + Drop> Session<D> {
         self.breakpoints.len()
     }
 
+    /// Those of a source, each its id and its line as the debuggee counts.
+    pub fn breakpoints_of(&self, source: &SourceKey) -> &[(u64, u32)]
+        ensures { result.now ≡ set_of source.now self.now.session.breakpoints.sources }
+    {
+        self.breakpoints.of_source(source)
+    }
+
     /// How many own requests are not answered.
     pub fn asked(&self) -> usize
         ensures { result ≡ length (own_requests self.now.session.asked) }
