@@ -63,13 +63,13 @@ quiet_step true s v w made c none =
     (a.0 ∙ ap (λ (m : MailState). after_happening (told_by m.coming v) s) none, a.1 ∙ ap (λ (m : MailState). let left : MailState = record m { coming = None; dropped = why_not_heard m.coming v } in left) none)
 quiet_step false s v w made c none = (c.0, ap (λ (u : LiveState). u.mail) c.1 ∙ none)
 
--- where nothing came, polls tell nothing, and leave nothing
-quiet : (start q : SessionState LiveState) (outs : List Message) → Polled FollowsLive start outs q → start.debuggee.mail ≡ no_mail → (outs ≡ []) × (q.debuggee.mail ≡ no_mail)
-quiet start _ _ not_polled none = (refl, none)
+-- where nothing came, polls tell nothing, leave nothing, and change nothing of the session
+quiet : (start q : SessionState LiveState) (outs : List Message) → Polled FollowsLive start outs q → start.debuggee.mail ≡ no_mail → (outs ≡ []) × (q.debuggee.mail ≡ no_mail) × (q.session ≡ start.session)
+quiet start _ _ not_polled none = (refl, none, refl)
 quiet start _ _ (polled_more outs p q earlier step) none =
     let before = quiet start p outs earlier none in
     let now = quiet_step (has_debuggee p.session.phase) p.session p.debuggee q.debuggee step.made step.carried before.1 in
-    (ap (λ (ms : List Message). ms ++ written_by p.session step.made) before.0 ∙ ap (λ (m : Made). written_by p.session m) now.0, now.1)
+    (ap (λ (ms : List Message). ms ++ written_by p.session step.made) before.0 ∙ ap (λ (m : Made). written_by p.session m) now.0, now.1, step.after ∙ ap (λ (m : Made). m.after) now.0 ∙ before.2)
 
 -- ---- what a host tells
 
@@ -83,19 +83,24 @@ module _ (old : AdapterState LiveState) (c : Coming) (outs : List Message) (end 
   first : (f.first.made ≡ after_happening (told_by (Some c) v) s) × (f.there.debuggee.mail ≡ with_dropped (why_unheard c v) no_mail)
   first = asked_so (has_debuggee s.phase) s v f.there.debuggee f.first.made run f.first.carried
 
-  by_drop : (d : Option Dropped) → why_unheard c v ≡ d → (f.later ≡ []) × (end.debuggee.mail ≡ with_dropped d no_mail)
+  by_drop : (d : Option Dropped) → why_unheard c v ≡ d → (f.later ≡ []) × (end.debuggee.mail ≡ with_dropped d no_mail) × (end.session ≡ f.there.session)
   unfolding after_happening
   by_drop None e = quiet f.there end f.later f.others (first.1 ∙ ap (λ (d : Option Dropped). with_dropped d no_mail) e)
   by_drop (Some why) e =
       let nothing : f.first.made ≡ no_change s = first.0 ∙ ap (λ (d : Option Dropped). after_happening (unless_dropped d (happening_by c)) s) e in
       let still = f.quiet (ap (λ (m : Made). written_by s m) nothing) in
-      (still.0, ap (λ (p : SessionState LiveState). p.debuggee.mail) still.1 ∙ (first.1 ∙ ap (λ (d : Option Dropped). with_dropped d no_mail) e))
+      (still.0, ap (λ (p : SessionState LiveState). p.debuggee.mail) still.1 ∙ (first.1 ∙ ap (λ (d : Option Dropped). with_dropped d no_mail) e), ap (λ (p : SessionState LiveState). p.session) still.1)
 
   same_drop : why_unheard c v ≡ why_unheard c old.debuggee
   same_drop = unheard_over c (with_coming c no_mail) old.debuggee
 
   pub left : end.debuggee.mail ≡ with_dropped (why_unheard c old.debuggee) no_mail
   left = (by_drop (why_unheard c old.debuggee) same_drop).1
+
+  pub session_after : end.session ≡ (after_happening (told_by (Some c) old.debuggee) s).after
+  session_after =
+      (by_drop (why_unheard c old.debuggee) same_drop).2 ∙ f.first.after ∙ ap (λ (m : Made). m.after) first.0
+      ∙ ap (λ (d : Option Dropped). (after_happening (unless_dropped d (happening_by c)) s).after) same_drop
 
   pub told : outs ≡ written_by s (after_happening (told_by (Some c) old.debuggee) s)
   told =
@@ -112,6 +117,7 @@ tells_fed old there new c none bytes dropped run laws empty polls is fetched =
       there = there;
       polls = given;
       told = told old c given.outs (state_of there) run f;
+      after = session_after old c given.outs (state_of there) run f;
       why = why;
       left = left old c given.outs (state_of there) run f ∙ ap (λ (d : Option Dropped). with_dropped d no_mail) (sym why);
       fetched = fetched;

@@ -1,6 +1,7 @@
 mod FedLemmas
 mod FoundLemmas
 mod GoingLemmas
+mod PartLemmas
 mod LineLemmas
 mod FetchLemmas
 mod HostingLemmas

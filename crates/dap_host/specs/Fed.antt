@@ -32,11 +32,13 @@ pub record AnswersFed (old : AdapterState LiveState) (placed : Option Placed) (b
   pub acts_are : acts ≡ there.debuggee.mail.acts
   pub fetched : new ≡ over_mail no_mail there
 
--- The debuggee is polled with what the host tells in its mail. The client is told just that, or nothing where it is dropped; and it is known why.
+-- The debuggee is polled with what the host tells in its mail. The client is told just that, or nothing where it is dropped; it is known why, and the session
+-- is as after that.
 pub record TellsFed (old : AdapterState LiveState) (c : Coming) (bytes : List ℕ) (dropped : Option Dropped) (new : AdapterState LiveState) : Type 0 where
   pub there : AdapterState LiveState
   pub polls : PollsOn shown_live FollowsLive (over_mail (with_coming c no_mail) old) [] there bytes
   pub told : polls.outs ≡ written_by old.session (after_happening (told_by (Some c) old.debuggee) old.session)
+  pub after : there.session ≡ (after_happening (told_by (Some c) old.debuggee) old.session).after
   pub why : dropped ≡ why_unheard c old.debuggee
   -- no act was asked meanwhile
   pub left : there.debuggee.mail ≡ with_dropped dropped no_mail

@@ -28,6 +28,7 @@ use Rattle.dap_envelope.specs.declared.message.Message.{Message}
 use Rattle.dap_json.specs.Read.{json_of}
 use Rattle.dap_recording.specs.Reading.{IsVerdict, file_sources}
 use Rattle.dap_command.specs.declared.offer.Offer.{Offer}
+use Rattle.dap_host.specs.Parts.{parts_of}
 use Rattle.dap_host.specs.Offers.{file_offers, RefusesOffers}
 use Rattle.dap_host.specs.declared.host.FileFault.{FileFault}
 use Rattle.dap_host.specs.declared.host.FileFault.TheVariants.{Sources, Offers}
@@ -197,11 +198,23 @@ pub record KeepsPlaced (old : HostState) (placed : Placed) (before after : List 
   pub none : after ≡ before
   pub kept : new ≡ with_placed (Some placed) old
 
--- where the debuggee drops after all what was told, the line is refused behind them, for just that reason
-pub record TellsOrDrops (old : HostState) (c : Coming) (before after : List ℕ) (new : HostState) : Type 0 where
+-- these parts are told one after the other, and none is dropped
+pub data TellsInTurn (old : HostState) (before : List ℕ) : List Coming → List ℕ → HostState → Type 0 where
+  none_told : TellsInTurn old before [] before old
+  one_more : (parts : List Coming) (part : Coming) (middle after : List ℕ) (there new : HostState)
+      → TellsInTurn old before parts middle there → TellsIt there part None middle after new → TellsInTurn old before (parts ++ part ∷ []) after new
+
+-- all of these parts are told in turn, or those up to one that the debuggee drops after all, behind which none is told
+pub data TellsUntil (old : HostState) (parts : List Coming) (before after : List ℕ) (new : HostState) : Option Drop → Type 0 where
+  all_told : TellsInTurn old before parts after new → TellsUntil old parts before after new None
+  until : (told later : List Coming) (part : Coming) (why : Drop) (middle : List ℕ) (there : HostState)
+      → parts ≡ told ++ part ∷ later → TellsInTurn old before told middle there → TellsIt there part (Some why) middle after new → TellsUntil old parts before after new (Some why)
+
+-- where the debuggee drops one of them after all, the line is refused behind what was told, for just that reason
+pub record TellsOrDrops (old : HostState) (parts : List Coming) (before after : List ℕ) (new : HostState) : Type 0 where
   pub dropped : Option Drop
   pub lines : List ℕ
-  pub tells : TellsIt old c dropped before lines new
+  pub tells : TellsUntil old parts before lines new dropped
   pub says : after ≡ lines ++ dropped_line old.number dropped
 
 pub data HearsMessage (old : HostState) (body before after : List ℕ) (new : HostState) : Type 0 where
@@ -210,9 +223,9 @@ pub data HearsMessage (old : HostState) (body before after : List ℕ) (new : Ho
 
 pub data HearsHappening (old : HostState) (text before after : List ℕ) (new : HostState) : Type 0 where
   not_heard : (why : Refusal) → RefusesTold old text why → Refuses old why before after new → HearsHappening old text before after new
-  placed : (where : Placed) → said_of text ≡ Ok (SaidPlaced where) → KeepsPlaced old where before after new → HearsHappening old text before after new
+  placed : (places : Placed) → said_of text ≡ Ok (SaidPlaced places) → KeepsPlaced old places before after new → HearsHappening old text before after new
   asked : (number : ℕ) → said_of text ≡ Ok (Target number) → AnswersTarget old number before after new → HearsHappening old text before after new
-  heard : (coming : Coming) → HearsTold old text coming → TellsOrDrops old coming before after new → HearsHappening old text before after new
+  heard : (coming : Coming) → HearsTold old text coming → TellsOrDrops old (parts_of coming) before after new → HearsHappening old text before after new
 
 -- ---- a line, by its first two bytes
 
@@ -257,9 +270,20 @@ pub record StopsTelling (old : HostState) (c : Coming) (before after : List ℕ)
   pub stops : StopsAfter shown_live FollowsLive (over_mail (with_coming c no_mail) old.adapter) (to_poll 0) [] [] fault new.adapter bytes
   pub lines : after ≡ before ++ message_lines stops.outs
 
+-- within a part, behind those that were told
+pub record StopsWithin (old : HostState) (parts : List Coming) (before after : List ℕ) (new : HostState) (fault : AdapterFault) : Type 0 where
+  pub told : List Coming
+  pub part : Coming
+  pub later : List Coming
+  pub parts_are : parts ≡ told ++ part ∷ later
+  pub middle : List ℕ
+  pub there : HostState
+  pub in_turn : TellsInTurn old before told middle there
+  pub stops : StopsTelling there part middle after new fault
+
 abbrev pub StopsMarked : Mark → HostState → List ℕ → List ℕ → List ℕ → HostState → AdapterFault → Type 0
 StopsMarked mark.Message old text before after new fault = TakesMessage old text × StopsMessage old text before after new fault
-StopsMarked mark.Happening old text before after new fault = (coming : Coming) × HearsTold old text coming × StopsTelling old coming before after new fault
+StopsMarked mark.Happening old text before after new fault = (coming : Coming) × HearsTold old text coming × StopsWithin old (parts_of coming) before after new fault
 StopsMarked mark.None old text before after new fault = ⊥
 
 abbrev pub StopsIf : Bool → HostState → List ℕ → List ℕ → List ℕ → HostState → AdapterFault → Type 0

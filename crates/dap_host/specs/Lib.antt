@@ -1,5 +1,6 @@
 pub mod Fed
 pub mod Offers
+pub mod Parts
 pub mod Hearing
 pub mod Fetching
 pub mod PrivateFetching

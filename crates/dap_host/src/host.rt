@@ -13,15 +13,16 @@ use crate::limits::limits_are_in_range;
 use crate::messages::push_messages;
 use crate::offers::{OffersFault, read_offers};
 use dap_adapter::{Adapter, AdapterFault, Phase, bodies_come_one_by_one};
-use dap_debuggee::State;
+use dap_debuggee::{Category, State};
 use dap_frame::Limits;
 use dap_json::object_reader::Scratch;
+use dap_json::{More, Text};
 use dap_line::{
     Refusal, Said, Told, Unread, body_refusal, coming_of, happening_in, push_acts, push_refusal,
     push_target, read_said,
 };
 use dap_live::{Coming, Dropped, HostAct, Live, Placed, why_dropped};
-use dap_recording::{RecordingFault, Sources, Texts};
+use dap_recording::{RecordingFault, Sources, Texts, piece_length};
 use std::alloc::{AllocError, Global};
 use std::marker::Model;
 
@@ -98,12 +99,12 @@ fn state_in(phase: Phase) -> Option<State>
 }
 
 /// Why what is told is dropped in a phase.
-fn dropped_in(phase: Phase, told: &Told) -> Result<Option<Dropped>, AllocError>
+fn dropped_in(alloc: Global, phase: Phase, told: &Told) -> Result<Option<Dropped>, AllocError>
     ensures { IfOk result (λ dropped. dropped ≡ drop_of phase told.now) }
 {
     match state_in(phase) {
         None => Ok(Some(Dropped::OutOfTurn)),
-        Some(state) => Ok(why_dropped(state, &happening_in(told)?)),
+        Some(state) => Ok(why_dropped(state, &happening_in(alloc, told)?)),
     }
 }
 
@@ -137,9 +138,12 @@ impl Model for Host {
 }
 
 impl Host {
-    ghost use Rattle.std.specs.Prelude.{◌≡◌, ◌≢◌, ◌↔◌, ◌<◌, ◌++◌, List, ℕ, length, IfOk, IfErr, OnOk, OnErr, IfSome, IsTrue, None, Ok, Err, true, false};
-    ghost use Rattle.dap_host.specs.Hearing.{IsFresh, IsGoing, RefusesMessage, TakesMessage, Comes, HearsTold, IsUnheard, AnswersMessage, dropped_line, TellsIt, TellsOrDrops, StopsMessage, StopsTelling, HearsMessage, HearsHappening, HearsMarked, StopsMarked, HearsText, Hears, HearsLonger, Halts, RefusesFile, counted};
+    ghost use Rattle.std.specs.Prelude.{◌≡◌, ◌≢◌, ◌↔◌, ◌<◌, ◌++◌, ◌∷◌, [], List, ℕ, length, IfOk, IfErr, OnOk, OnErr, IfSome, IsTrue, None, Ok, Err, true, false};
+    ghost use Rattle.dap_host.specs.Hearing.{IsFresh, IsGoing, RefusesMessage, TakesMessage, Comes, HearsTold, IsUnheard, AnswersMessage, dropped_line, TellsIt, TellsUntil, TellsOrDrops, StopsMessage, StopsTelling, StopsWithin, HearsMessage, HearsHappening, HearsMarked, StopsMarked, HearsText, Hears, HearsLonger, Halts, RefusesFile, counted};
+    ghost use Rattle.dap_host.specs.Parts.{parts_of, outputs, outputs_alone, texts_told};
     ghost use Rattle.dap_line.specs.Moments.{HasRoom};
+    ghost use Rattle.dap_live.specs.declared.mail.Coming.TheVariants as news;
+    ghost use Rattle.dap_recording.specs.Pieces.{pieces};
     ghost use Rattle.dap_line.specs.Told.{said_of};
     ghost use Rattle.dap_line.specs.Written.{message_lines, refusal_line, target_line};
     ghost use Rattle.dap_line.specs.declared.told.Said.{Said};
@@ -339,13 +343,13 @@ impl Host {
     }
 
     /// What comes by what a host tells by a text.
-    fn coming_in(&mut self, _text: &[u8], told: Told) -> Result<Coming, Unread>
+    fn coming_in(&mut self, alloc: Global, _text: &[u8], told: Told) -> Result<Coming, Unread>
         requires { said_of _text.now ≡ Ok (Said.Happened told) }
         ensures comes { IfOk result (Comes self.old _text.now) }
         ensures refused { IfErr result (IsUnheard self.old _text.now) }
         ensures same { self.new ≡ self.old }
     {
-        match dropped_in(self.adapter.phase(), &told) {
+        match dropped_in(alloc, self.adapter.phase(), &told) {
             Ok(None) => coming_of(&mut self.texts, self.adapter.debuggee().sources(), told),
             Ok(Some(why)) => Err(Unread::Refused(Refusal::Dropped(why))),
             Err(_) => Err(Unread::OutOfMemory),
@@ -362,7 +366,7 @@ impl Host {
         requires { IsGoing self.old }
         ensures hears { OnOk result (HearsHappening self.old text.now out.old.items out.new.items self.new) }
         ensures going { OnOk result (IsGoing self.new) }
-        ensures stops { IfErr result (λ fault. fault ≢ AdapterFault.OutOfMemory → (coming : Coming) × HearsTold self.old text.now coming × StopsTelling self.old coming out.old.items out.new.items self.new fault) }
+        ensures stops { IfErr result (λ fault. fault ≢ AdapterFault.OutOfMemory → (coming : Coming) × HearsTold self.old text.now coming × StopsWithin self.old (parts_of coming) out.old.items out.new.items self.new fault) }
     {
         match read_said(alloc, &mut self.scratch, text) {
             Ok(Said::Happened(told)) => self.hear_told(alloc, text, told, out),
@@ -405,9 +409,9 @@ impl Host {
         requires is { said_of text.now ≡ Ok (Said.Happened told) }
         ensures hears { OnOk result (HearsHappening self.old text.now out.old.items out.new.items self.new) }
         ensures going { OnOk result (IsGoing self.new) }
-        ensures stops { IfErr result (λ fault. fault ≢ AdapterFault.OutOfMemory → (coming : Coming) × HearsTold self.old text.now coming × StopsTelling self.old coming out.old.items out.new.items self.new fault) }
+        ensures stops { IfErr result (λ fault. fault ≢ AdapterFault.OutOfMemory → (coming : Coming) × HearsTold self.old text.now coming × StopsWithin self.old (parts_of coming) out.old.items out.new.items self.new fault) }
     {
-        match self.coming_in(text, told) {
+        match self.coming_in(alloc, text, told) {
             Ok(coming) => self.hear_coming(alloc, text, coming, out),
             Err(Unread::Refused(why)) => self.refuse(why, out),
             Err(Unread::OutOfMemory) => Err(AdapterFault::OutOfMemory),
@@ -426,7 +430,7 @@ impl Host {
         requires comes { Comes self.old _text.now coming }
         ensures hears { OnOk result (HearsHappening self.old _text.now out.old.items out.new.items self.new) }
         ensures going { OnOk result (IsGoing self.new) }
-        ensures stops { IfErr result (λ fault. fault ≢ AdapterFault.OutOfMemory → HearsTold self.old _text.now coming × StopsTelling self.old coming out.old.items out.new.items self.new fault) }
+        ensures stops { IfErr result (λ fault. fault ≢ AdapterFault.OutOfMemory → HearsTold self.old _text.now coming × StopsWithin self.old (parts_of coming) out.old.items out.new.items self.new fault) }
     {
         if !self.has_room(&coming) {
             return self.refuse(Refusal::Dropped(Dropped::TooManySources), out);
@@ -459,7 +463,7 @@ impl Host {
         }
     }
 
-    /// Lets the adapter tell what happened, and refuses the line where that is dropped after all.
+    /// Lets the adapter tell what happened, part by part, and refuses the line where one is dropped after all.
     fn tell_or_refuse(
         &mut self,
         alloc: Global,
@@ -468,12 +472,109 @@ impl Host {
     ) -> Result<(), AdapterFault>
         requires going { IsGoing self.old }
         requires in_a_run { has_debuggee self.old.adapter.session.phase ≡ true }
-        ensures tells { OnOk result (TellsOrDrops self.old coming out.old.items out.new.items self.new) }
+        ensures tells { OnOk result (TellsOrDrops self.old (parts_of coming) out.old.items out.new.items self.new) }
         ensures going { OnOk result (IsGoing self.new) }
-        ensures stops { IfErr result (λ fault. fault ≢ AdapterFault.OutOfMemory → StopsTelling self.old coming out.old.items out.new.items self.new fault) }
+        ensures stops { IfErr result (λ fault. fault ≢ AdapterFault.OutOfMemory → StopsWithin self.old (parts_of coming) out.old.items out.new.items self.new fault) }
     {
-        let dropped = self.tell(alloc, coming, out)?;
+        let dropped = self.tell_parts(alloc, coming, out)?;
         self.refuse_dropped(dropped, out)
+    }
+
+    /// Lets the adapter tell what happened, output in pieces: why a part is dropped, if one is. None is told behind it.
+    fn tell_parts(
+        &mut self,
+        alloc: Global,
+        coming: Coming,
+        out: &mut Vec<u8>,
+    ) -> Result<Option<Dropped>, AdapterFault>
+        requires going { IsGoing self.old }
+        requires in_a_run { has_debuggee self.old.adapter.session.phase ≡ true }
+        ensures tells { IfOk result (TellsUntil self.old (parts_of coming) out.old.items out.new.items self.new) }
+        ensures going { OnOk result (IsGoing self.new) }
+        ensures stops { IfErr result (λ fault. fault ≢ AdapterFault.OutOfMemory → StopsWithin self.old (parts_of coming) out.old.items out.new.items self.new fault) }
+    {
+        match coming {
+            Coming::Output {
+                category,
+                text,
+                more,
+            } => self.tell_output(alloc, &category, text.as_str(), more, out),
+            whole => self.tell(alloc, whole, out),
+        }
+    }
+
+    /// Lets the adapter tell output, with what stands beside it beside the first piece.
+    fn tell_output(
+        &mut self,
+        alloc: Global,
+        category: &Category,
+        text: &str,
+        more: More,
+        out: &mut Vec<u8>,
+    ) -> Result<Option<Dropped>, AdapterFault>
+        requires going { IsGoing self.old }
+        requires in_a_run { has_debuggee self.old.adapter.session.phase ≡ true }
+        ensures tells { IfOk result (TellsUntil self.old (outputs category.now more (texts_told text.now)) out.old.items out.new.items self.new) }
+        ensures going { OnOk result (IsGoing self.new) }
+        ensures stops { IfErr result (λ fault. fault ≢ AdapterFault.OutOfMemory → StopsWithin self.old (outputs category.now more (texts_told text.now)) out.old.items out.new.items self.new fault) }
+    {
+        let (piece, rest) = text.split_at(piece_length(text));
+        if let Some(why) = self.tell_piece(alloc, category, piece, more, out)? {
+            return Ok(Some(why));
+        }
+        self.tell_rest(alloc, category, rest, out)
+    }
+
+    /// Lets the adapter tell the pieces of output behind the first.
+    fn tell_rest(
+        &mut self,
+        alloc: Global,
+        category: &Category,
+        text: &str,
+        out: &mut Vec<u8>,
+    ) -> Result<Option<Dropped>, AdapterFault>
+        requires going { IsGoing self.old }
+        requires in_a_run { has_debuggee self.old.adapter.session.phase ≡ true }
+        ensures tells { IfOk result (TellsUntil self.old (outputs_alone category.now (pieces (text.now ∷ []))) out.old.items out.new.items self.new) }
+        ensures going { OnOk result (IsGoing self.new) }
+        ensures stops { IfErr result (λ fault. fault ≢ AdapterFault.OutOfMemory → StopsWithin self.old (outputs_alone category.now (pieces (text.now ∷ []))) out.old.items out.new.items self.new fault) }
+    {
+        let mut left = text;
+        while !left.is_empty() {
+            let (piece, rest) = left.split_at(piece_length(left));
+            if let Some(why) = self.tell_piece(alloc, category, piece, More::none(), out)? {
+                return Ok(Some(why));
+            }
+            left = rest;
+        }
+        Ok(None)
+    }
+
+    /// Lets the adapter tell a piece of output: why it is dropped, if it is.
+    fn tell_piece(
+        &mut self,
+        alloc: Global,
+        category: &Category,
+        piece: &str,
+        more: More,
+        out: &mut Vec<u8>,
+    ) -> Result<Option<Dropped>, AdapterFault>
+        requires going { IsGoing self.old }
+        requires in_a_run { has_debuggee self.old.adapter.session.phase ≡ true }
+        ensures tells { IfOk result (λ dropped. TellsIt self.old (news.Output category.now piece.now more) dropped out.old.items out.new.items self.new) }
+        ensures going { OnOk result (IsGoing self.new) }
+        ensures in_a_run { OnOk result (has_debuggee self.new.adapter.session.phase ≡ true) }
+        ensures stops { IfErr result (λ fault. fault ≢ AdapterFault.OutOfMemory → StopsTelling self.old (news.Output category.now piece.now more) out.old.items out.new.items self.new fault) }
+    {
+        let Ok(text) = Text::copied(alloc, piece) else {
+            return Err(AdapterFault::OutOfMemory);
+        };
+        let coming = Coming::Output {
+            category: *category,
+            text,
+            more,
+        };
+        self.tell(alloc, coming, out)
     }
 
     /// Lets the adapter tell what happened: why it is dropped, if it is.

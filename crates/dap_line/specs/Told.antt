@@ -1,5 +1,5 @@
 -- What a host tells: which JSON tells what, or the first bad key. The format is this profile's choice; `null` counts as absent.
-use Rattle.std.specs.Prelude.{◌≡◌, ℕ, ℤ, zero, suc, Bool, true, false, List, [], ◌∷◌, ◌++◌, codes, bytes_eq, Vec, Option, Some, None, option_and_then, option_map, unwrap_or, Result, Ok, Err, if◌then◌else◌}
+use Rattle.std.specs.Prelude.{◌≡◌, ℕ, ℤ, zero, suc, Bool, true, false, List, [], ◌∷◌, ◌++◌, take, codes, bytes_eq, Vec, Option, Some, None, option_and_then, option_map, unwrap_or, Result, Ok, Err, if◌then◌else◌}
 use Rattle.serde_json.specs.Data.{Data, Items, no_items, item}
 use Rattle.serde_json.specs.Find.{as_str, as_bool, as_array}
 use Rattle.dap_json.specs.Numbers.{int_of, number_of}
@@ -16,6 +16,7 @@ use Rattle.dap_json.specs.More.{more_of}
 use Rattle.dap_json.specs.Property.{or_bad, required, in_shape, in_shape_or}
 use Rattle.dap_json.specs.Read.{json_of}
 use Rattle.dap_json.specs.Steps.{◌>>=◌, Returns}
+use Rattle.dap_recording.specs.Pieces.{piece_length}
 use Rattle.dap_recording.specs.Reading.{exit_of}
 use Rattle.dap_line.specs.Written.{host_key_name}
 use Rattle.dap_line.specs.declared.refusal.HostKey.{HostKey}
@@ -305,8 +306,10 @@ Tells result text = Returns (λ x. x) Says result (said_of text)
 
 -- ---- what happens by it
 
+-- of output that is told in several pieces, the first
+
 abbrev pub happening_of : Told → Happening
-happening_of (told.Output category text more) = happening.Output category text more
+happening_of (told.Output category text more) = happening.Output category (take (piece_length text) text) more
 happening_of (told.Stopped reason thread moment later more) = happening.Stopped reason thread more
 happening_of (told.Continued thread) = happening.Continued thread
 happening_of (told.Exited code) = happening.Exited code

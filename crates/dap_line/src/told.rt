@@ -1,10 +1,11 @@
 //! What a host tells of its debugger, as it is read.
-ghost use Rattle.std.specs.Prelude.{◌≡◌, [], IfOk};
+ghost use Rattle.std.specs.Prelude.{◌≡◌, [], take, IfOk};
 ghost use Rattle.serde_json.specs.Find.{as_str, as_array};
 ghost use Rattle.serde_json.specs.View.{view, items_view};
 ghost use Rattle.dap_json.specs.Lent.{lent_data};
 ghost use Rattle.dap_json.specs.More.{more_of};
 ghost use Rattle.dap_json.specs.Numbers.{number_of};
+ghost use Rattle.dap_recording.specs.Pieces.{piece_length};
 ghost use Rattle.dap_line.specs.Told.{Gives, GivesList, Tells, value_at, required_at, optional_at, optional_or, category_of, category_named as category_of_name, variable_of, each_variable, variables_of as variables_of_items, variables_in as variables_told, learned_by as learned_of_key, loaded_in as loaded_of};
 ghost use Rattle.dap_line.specs.Told.{output_in as output_of, stop_in as stop_of, continued_in as continued_of, exit_in as exit_of, learned_in as learned_of, no_value_in as no_value_of, text_by as text_of_keys, kind_named as kind_of_name, kind_of, told_in as told_of, happening_of, question_named as question_of_name, question_of, asked_in as asked_of, happened_in as happened_of, said_in as said_of};
 ghost use Rattle.std.specs.Option.{is_some};
@@ -17,7 +18,7 @@ use dap_json::object_reader::Scratch;
 use dap_json::property::Property;
 use dap_json::{List, More, ParseFault, Text, Tree, field};
 use dap_live::Placed;
-use dap_recording::numbers;
+use dap_recording::{numbers, piece_length};
 use serde_json::Value;
 use std::alloc::{AllocError, AllocFailed, Global};
 
@@ -461,8 +462,16 @@ pub fn read_said(alloc: Global, scratch: &mut Scratch, text: &[u8]) -> Result<Sa
     }
 }
 
-/// What happens by what is told.
-pub fn happening_in(told: &Told) -> Result<Happening, AllocError>
+/// The first piece of a text.
+fn first_piece(alloc: Global, text: &str) -> Result<Text, AllocError>
+    ensures { IfOk result (λ piece. piece ≡ take (piece_length text.now) text.now) }
+{
+    let (piece, _) = text.split_at(piece_length(text));
+    Text::copied(alloc, piece)
+}
+
+/// What happens by what is told; of output that is told in several pieces, the first.
+pub fn happening_in(alloc: Global, told: &Told) -> Result<Happening, AllocError>
     ensures { IfOk result (λ happening. happening ≡ happening_of told.now) }
 {
     match told {
@@ -472,7 +481,7 @@ pub fn happening_in(told: &Told) -> Result<Happening, AllocError>
             more,
         } => Ok(Happening::Output {
             category: *category,
-            text: text.clone()?,
+            text: first_piece(alloc, text.as_str())?,
             more: more.clone()?,
         }),
         Told::Stopped {

@@ -1,3 +1,6 @@
+pub mod FirstPieces
+pub mod PieceLemmas
+pub mod PiecesExamples
 pub mod Depths
 pub mod Elements
 pub mod Children

@@ -1,4 +1,5 @@
 pub mod Recording
+pub mod Pieces
 pub mod Sources
 pub mod Lent
 pub mod Snapshot

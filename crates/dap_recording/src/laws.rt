@@ -1,5 +1,6 @@
 //! Laws of reading. Each function is empty: its contract is the law.
 ghost use Rattle.dap_recording.specs.AloneLaw.{AloneIsTheOnlyOne, RecordingsAreFiles};
+ghost use Rattle.dap_recording.specs.Pieces.{PiecesAreTheOutput};
 ghost use Rattle.dap_recording.specs.Refusals.{RefusalsAreFaults};
 
 /// A moment over sources is read as the only one of a recording.
@@ -19,4 +20,10 @@ pub fn recordings_are_files()
 #[tactic(auto, using(crate::proofs::WhyRefused::refusals_are_why))]
 pub fn refusals_are_faults()
     ensures { RefusalsAreFaults }
+{}
+
+/// The pieces of texts are the whole of them; none is empty, and none has more than 128 bytes.
+#[tactic(auto, using(crate::proofs::PieceLemmas::pieces_whole))]
+pub fn pieces_are_the_output()
+    ensures { PiecesAreTheOutput }
 {}

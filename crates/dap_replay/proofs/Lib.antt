@@ -1,6 +1,5 @@
 pub mod Places
 pub mod Outputs
-pub mod Pieces
 pub mod Ranges
 pub mod Plain
 pub mod SetLines

@@ -6,7 +6,7 @@ use Rattle.dap_recording.proofs.ReadingExamples.{three_moments_is_recording}
 use Rattle.dap_recording.proofs.ThreeMoments.{three_moments}
 use Rattle.dap_replay.proofs.Told.{told_can_be_asked}
 use Rattle.dap_debuggee.specs.Shown.{Act, to_start, to_resume, to_pause, to_poll, to_set_breakpoints, to_assign, to_end, Reply, done, refused, happened}
-use Rattle.dap_replay.specs.Played.{Played, with_variables, fresh_played, act_on, with_ask, shown_of, piece_length, first_piece, output_of}
+use Rattle.dap_replay.specs.Played.{Played, with_variables, fresh_played, act_on, with_ask, shown_of, output_of}
 use Rattle.dap_replay.specs.Moves.{plain_stop}
 use Rattle.dap_replay.specs.ShownNumbers.{ShownCanBeAsked}
 use Rattle.dap_debuggee.specs.declared.answers.State.TheVariants.{NotStarted, Running, Stopped, Gone}
@@ -153,20 +153,6 @@ verdicts = option_map (map (λ (p : Placement). p.verified))
 
 verified : (verdicts ((shown_of fresh).verify (Path (codes "/a.c")) (3 ∷ 4 ∷ 0 ∷ 1 ∷ 4294967295 ∷ [])) ≡ Some (true ∷ false ∷ false ∷ true ∷ false ∷ [])) × (verdicts ((shown_of fresh).verify (Reference 1) (3 ∷ 4 ∷ [])) ≡ Some (true ∷ false ∷ [])) × (verdicts ((shown_of fresh).verify (Reference 2) (1 ∷ [])) ≡ Some (false ∷ [])) × (verdicts ((shown_of fresh).verify (Reference 0) (1 ∷ [])) ≡ Some (false ∷ [])) × (verdicts ((shown_of fresh).verify (Path (codes "a.c")) (1 ∷ [])) ≡ Some (false ∷ [])) × (verdicts ((shown_of fresh).verify (Reference 1) []) ≡ Some [])
 verified = (refl, refl, refl, refl, refl, refl)
-
--- ---- pieces of output
-
--- é is 195 169
-whole_pieces : (piece_length (replicate 128 97) ≡ 128) × (piece_length (replicate 129 97) ≡ 128) × (piece_length (replicate 127 97 ++ 195 ∷ 169 ∷ []) ≡ 127) × (piece_length (replicate 126 97 ++ 195 ∷ 169 ∷ 97 ∷ []) ≡ 128) × (piece_length (replicate 128 97 ++ 195 ∷ 169 ∷ []) ≡ 128)
-whole_pieces = (refl, refl, refl, refl, refl)
-
--- 240 159 152 128 is one character; 125 bytes before it leave no room
-four_bytes : (piece_length (replicate 125 97 ++ 240 ∷ 159 ∷ 152 ∷ 128 ∷ []) ≡ 125) × (piece_length (replicate 124 97 ++ 240 ∷ 159 ∷ 152 ∷ 128 ∷ 97 ∷ []) ≡ 128)
-four_bytes = (refl, refl)
-
--- moments without output give no piece, and no piece is of two moments
-pieces : (first_piece ([] ∷ codes "a" ∷ codes "b" ∷ []) ≡ Some (codes "a", [] ∷ codes "b" ∷ [])) × (first_piece ([] ∷ [] ∷ []) ≡ None) × (first_piece [] ≡ None)
-pieces = (refl, refl, refl)
 
 -- from a place to a place, the last one included; to the exit all of them
 outputs : (output_of three_moments.moments 0 0 ≡ codes "go\n" ∷ []) × (output_of three_moments.moments 1 2 ≡ [] ∷ [] ∷ []) × (output_of three_moments.moments 1 3 ≡ [] ∷ [] ∷ []) × (output_of three_moments.moments 3 3 ≡ [])

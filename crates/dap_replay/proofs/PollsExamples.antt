@@ -1,27 +1,12 @@
--- Worked examples of the pieces of a run's output and of its polls, each shown by computation.
+-- Worked examples of the polls of a run, each shown by computation.
 use Rattle.std.proofs.Common.{◌≡◌, [], ◌∷◌, codes, replicate, Bool, true, false, Some, pos, refl}
 use Rattle.dap_recording.proofs.ThreeMoments.{three_moments}
 use Rattle.dap_replay.specs.Played.{Played, Run, fresh_played}
-use Rattle.dap_replay.specs.Polls.{joined_text, first_pieces, pieces, polls, nothings, output_happenings}
+use Rattle.dap_replay.specs.Polls.{polls, nothings, output_happenings}
 use Rattle.dap_debuggee.specs.declared.answers.State.TheVariants.{Running}
 use Rattle.dap_debuggee.specs.declared.answers.Category.TheVariants.{Stdout}
 use Rattle.dap_debuggee.specs.declared.answers.Happening.TheVariants.{Nothing, Output, Stopped, Exited}
 use Rattle.dap_replay.specs.declared.moves.Reason.TheVariants.{Step, Pause}
-
--- ---- pieces
-
-joined_texts : (joined_text (codes "ab" ∷ [] ∷ codes "c" ∷ []) ≡ codes "abc") × (joined_text [] ≡ [])
-joined_texts = (refl, refl)
-
--- each text by itself, and an empty one gives none
-pieces_of_texts : (pieces (codes "ab" ∷ [] ∷ codes "c" ∷ []) ≡ codes "ab" ∷ codes "c" ∷ []) × (pieces ([] ∷ []) ≡ []) × (pieces [] ≡ [])
-pieces_of_texts = (refl, refl, refl)
-
-long_text : (pieces (replicate 130 97 ∷ []) ≡ replicate 128 97 ∷ replicate 2 97 ∷ []) × (pieces (replicate 256 97 ∷ []) ≡ replicate 128 97 ∷ replicate 128 97 ∷ [])
-long_text = (refl, refl)
-
-first_of_them : (first_pieces 1 (codes "a" ∷ codes "b" ∷ []) ≡ codes "a" ∷ []) × (first_pieces 0 (codes "a" ∷ []) ≡ []) × (first_pieces 5 (codes "a" ∷ []) ≡ codes "a" ∷ [])
-first_of_them = (refl, refl, refl)
 
 -- ---- polls
 

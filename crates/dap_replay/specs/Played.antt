@@ -8,6 +8,7 @@ use Rattle.dap_debuggee.specs.Shown.{Shown, Act, to_start, to_resume, to_pause, 
 use Rattle.dap_debuggee.specs.Laws.{variable_named, with_assigned}
 use Rattle.dap_recording.specs.Recording.{id_at, beside_stop}
 use Rattle.dap_recording.specs.Reading.{IsVerdict}
+pub use Rattle.dap_recording.specs.Pieces.{piece_length, first_piece}
 pub use Rattle.dap_recording.specs.Snapshot.{is_in, thread_shown}
 use Rattle.dap_recording.specs.Snapshot.{if_in, frames_in}
 pub use Rattle.dap_recording.specs.Sources.{source_shown, path_has_line, source_has_line, has_source_line}
@@ -68,25 +69,6 @@ abbrev pub variables_held : Played → ℕ → Option (List Variable)
 variables_held v holder = first_of (variables_at holder v.changed) (slice_get v.recording.variables holder)
 
 -- ---- output
-
--- a place of a text where a character ends or begins
-abbrev pub is_boundary : List ℕ → ℕ → Bool
-is_boundary text n = nat_le (length text) n || (nat_lt (slice_index text n) 128 || nat_le 192 (slice_index text n))
-
--- the greatest such place from 1 to n; all 128 bytes where there is none, as in no text, whose characters have 4 at most
-abbrev pub boundary_up_to : List ℕ → ℕ → ℕ
-boundary_up_to text zero = 128
-boundary_up_to text (suc n) = if is_boundary text (suc n) then suc n else boundary_up_to text n
-
--- the length of the first piece: at most 128 bytes, whole characters
-abbrev pub piece_length : List ℕ → ℕ
-piece_length text = if nat_le (length text) 128 then length text else boundary_up_to text 128
-
--- a piece and what is left after it
-abbrev pub first_piece : List (List ℕ) → Option (List ℕ × List (List ℕ))
-first_piece [] = None
-first_piece ([] ∷ texts) = first_piece texts
-first_piece ((c ∷ cs) ∷ texts) = Some (take (piece_length (c ∷ cs)) (c ∷ cs), drop (piece_length (c ∷ cs)) (c ∷ cs) ∷ texts)
 
 -- what is written on a forward move from before moment `from` to moment `to`, or to the exit
 abbrev pub output_of : List Moment → ℕ → ℕ → List (List ℕ)

@@ -3,29 +3,12 @@
 use Rattle.std.specs.Prelude.{◌≡◌, ℕ, zero, suc, ◌+◌, true, false, ◌&&◌, nat_le, List, [], ◌∷◌, ◌++◌, length, map, Option, Some, None, IsTrue}
 use Rattle.std.specs.List.{list_all, flat_map}
 use Rattle.dap_debuggee.specs.Shown.{to_poll, happened}
-use Rattle.dap_replay.specs.Played.{Played, Run, with_ask, poll_result, end_of_run, first_piece}
+use Rattle.dap_recording.specs.Pieces.{pieces}
+use Rattle.dap_replay.specs.Played.{Played, Run, with_ask, poll_result, end_of_run}
 use Rattle.dap_debuggee.specs.declared.answers.State.TheVariants.{Running}
 use Rattle.dap_debuggee.specs.declared.answers.Category.TheVariants.{Stdout}
 use Rattle.dap_debuggee.specs.declared.answers.Happening.{Happening}
 use Rattle.dap_debuggee.specs.declared.answers.Happening.TheVariants.{Nothing, Output}
-
--- ---- pieces
-
-abbrev pub joined_text : List (List ℕ) → List ℕ
-joined_text texts = flat_map (λ text. text) texts
-
-abbrev pub and_then : (List (List ℕ) → List (List ℕ)) → Option (List ℕ × List (List ℕ)) → List (List ℕ)
-and_then others None = []
-and_then others (Some (piece, rest)) = piece ∷ others rest
-
--- the first n pieces, or all where they are fewer
-abbrev pub first_pieces : ℕ → List (List ℕ) → List (List ℕ)
-first_pieces zero texts = []
-first_pieces (suc n) texts = and_then (first_pieces n) (first_piece texts)
-
--- all pieces: no more than there are bytes
-abbrev pub pieces : List (List ℕ) → List (List ℕ)
-pieces texts = first_pieces (length (joined_text texts)) texts
 
 -- ---- polls
 
@@ -45,10 +28,6 @@ abbrev pub output_happenings : List (List ℕ) → List Happening
 output_happenings texts = map (λ text. Output Stdout text []) (pieces texts)
 
 -- ---- laws
-
--- Pieces are the whole output: none is empty, and none has more than 128 bytes.
-abbrev pub PiecesAreTheOutput : Type 0
-PiecesAreTheOutput = (texts : List (List ℕ)) → (joined_text (pieces texts) ≡ joined_text texts) × IsTrue (list_all (λ piece. nat_le 1 (length piece) && nat_le (length piece) 128) (pieces texts))
 
 -- While it runs, polls give the pieces of its output in order, and then how the run ends.
 abbrev pub PollsGiveThePieces : Type 0

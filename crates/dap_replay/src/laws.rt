@@ -3,12 +3,7 @@ ghost use Rattle.dap_debuggee.specs.Laws.{StopsLast};
 ghost use Rattle.dap_debuggee.specs.StayLaws.{FramesAreConstant, SourcesAreConstant};
 ghost use Rattle.dap_replay.specs.Played.{shown_of, FollowsPlayed};
 ghost use Rattle.dap_replay.specs.PlainMoves.{PlaysWithoutStops};
-ghost use Rattle.dap_replay.specs.Polls.{PiecesAreTheOutput, PollsGiveThePieces, HeldGivesNothing};
-
-/// The pieces of a run's output are the whole output; none is empty, and none has more than 128 bytes.
-pub fn pieces_are_the_output()
-    ensures { PiecesAreTheOutput }
-{}
+ghost use Rattle.dap_replay.specs.Polls.{PollsGiveThePieces, HeldGivesNothing};
 
 /// Polls of a recorded debuggee that runs give the pieces of its output in order, and then how the run ends.
 pub fn polls_tell_the_pieces()

@@ -2,22 +2,10 @@
 ghost use Rattle.std.specs.Prelude.{◌≡◌, ◌⊎◌, ◌≤◌, ◌-◌, length, take, drop, IfSome, Some, None};
 ghost use Rattle.std.specs.Str.{IsCharBoundary};
 ghost use Rattle.dap_replay.specs.PrivateHeld.{output_left, output_in, IsOutputWhole, IsReady};
-ghost use Rattle.dap_replay.specs.Played.{first_piece, piece_length};
+ghost use Rattle.dap_replay.specs.Played.{first_piece};
 
 use crate::recorded::Going;
-use dap_recording::Moment;
-
-/// The most bytes of output that a poll gives.
-const MAX_PIECE: usize = 128;
-
-/// How many bytes the first piece of a text has: at most 128, whole characters.
-fn piece(text: &str) -> usize
-    ensures length { result ≡ piece_length text.now }
-    ensures boundary { IsCharBoundary text.now result }
-    ensures short { result ≤ 128 }
-{
-    text.floor_char_boundary(MAX_PIECE)
-}
+use dap_recording::{Moment, piece_length};
 
 /// The run past the moments whose output is used up.
 pub(crate) fn skipped(moments: &[Moment], going: Going) -> Going
@@ -67,7 +55,7 @@ pub(crate) fn next_piece(moments: &[Moment], going: Going) -> Option<(&str, Goin
     }
     let moment = moments.get(going.moment)?;
     let rest = rest(moment.output.as_str(), going.told);
-    let n = piece(rest);
+    let n = piece_length(rest);
     let (piece, _) = rest.split_at(n);
     let told = going.told + n;
     Some((piece, Going { told, ..going }))

@@ -16,9 +16,9 @@ returns-clause-piece c =
     let is : slice_get moments g.moment ≡ Some m = slice_get_read moments (length moments) g.moment m refl c.in_ok-moment.ensures.lookup.3.0 c.in_ok-moment.ensures.lookup.1 in
     let told = ready_told moments g m c.requires.ready within is in
     let text : c.rest-rest.result.now ≡ drop g.told m.output = c.rest-rest.ensures ∙ ap (drop g.told) c.as_str.ensures in
-    let long = c.piece-n.ensures.length ∙ ap piece_length text in
-    told_piece moments g m c.piece-n.result within is told long
-    ∙ ap (λ t. Some (t, output_left moments (record { moment = g.moment; told = g.told + c.piece-n.result; last = g.last; to = g.to; paused = g.paused }))) (ap (take c.piece-n.result) (sym text) ∙ sym c.split_at.ensures.front)
+    let long = c.piece_length-n.ensures.length ∙ ap piece_length text in
+    told_piece moments g m c.piece_length-n.result within is told long
+    ∙ ap (λ t. Some (t, output_left moments (record { moment = g.moment; told = g.told + c.piece_length-n.result; last = g.last; to = g.to; paused = g.paused }))) (ap (take c.piece_length-n.result) (sym text) ∙ sym c.split_at.ensures.front)
 
 pub returns-clause-whole : goal.returns-clause-whole
 returns-clause-whole c =
@@ -29,8 +29,8 @@ returns-clause-whole c =
     let is : slice_get moments g.moment ≡ Some m = slice_get_read moments (length moments) g.moment m refl c.in_ok-moment.ensures.lookup.3.0 c.in_ok-moment.ensures.lookup.1 in
     let told = ready_told moments g m c.requires.ready within is in
     let text : c.rest-rest.result.now ≡ drop g.told m.output = c.rest-rest.ensures ∙ ap (drop g.told) c.as_str.ensures in
-    inr (subst (λ t. IsCharBoundary t (g.told + c.piece-n.result)) (sym (output_is moments g.moment m is))
-    (told_whole m.output g.told c.piece-n.result told (subst (λ t. IsCharBoundary t c.piece-n.result) text c.piece-n.ensures.boundary)))
+    inr (subst (λ t. IsCharBoundary t (g.told + c.piece_length-n.result)) (sym (output_is moments g.moment m is))
+    (told_whole m.output g.told c.piece_length-n.result told (subst (λ t. IsCharBoundary t c.piece_length-n.result) text c.piece_length-n.ensures.boundary)))
 
 pub returns-clause-text : goal.returns-clause-text
 returns-clause-text c =
@@ -38,9 +38,9 @@ returns-clause-text c =
     let g = c.args.going in
     let m = c.in_ok-moment.moment.now in
     let is : slice_get moments g.moment ≡ Some m = slice_get_read moments (length moments) g.moment m refl c.in_ok-moment.ensures.lookup.3.0 c.in_ok-moment.ensures.lookup.1 in
-    let count : c.piece-n.result ≡ g.told + c.piece-n.result - g.told = omega arith in
-    c.split_at.ensures.front ∙ ap (take c.piece-n.result) (c.rest-rest.ensures ∙ ap (drop g.told) (c.as_str.ensures ∙ sym (output_is moments g.moment m is)))
+    let count : c.piece_length-n.result ≡ g.told + c.piece_length-n.result - g.told = omega arith in
+    c.split_at.ensures.front ∙ ap (take c.piece_length-n.result) (c.rest-rest.ensures ∙ ap (drop g.told) (c.as_str.ensures ∙ sym (output_is moments g.moment m is)))
     ∙ ap (λ n. take n (drop g.told (output_in moments g.moment))) count
 
 pub returns-clause-short : goal.returns-clause-short
-returns-clause-short c = omega (arith, c.split_at.ensures.front_len, c.piece-n.ensures.short)
+returns-clause-short c = omega (arith, c.split_at.ensures.front_len, c.piece_length-n.ensures.short)

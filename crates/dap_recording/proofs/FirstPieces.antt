@@ -6,7 +6,7 @@ use Rattle.std.proofs.lemmas.Str.{IsCharBoundary-past_char, len_utf8_bounds}
 use Rattle.std.specs.Char.{len_utf8}
 use Rattle.std.proofs.Math.Utf8.{encodes, scalars}
 use Rattle.std.specs.Str.{IsCharBoundary, IsUtf8}
-use Rattle.dap_replay.specs.Played.{is_boundary, boundary_up_to, piece_length}
+use Rattle.dap_recording.specs.Pieces.{is_boundary, boundary_up_to, piece_length}
 
 or_false : (a b : Bool) → a ≡ false → (a || b) ≡ b
 or_false true b e = absurd (true≢false e)

@@ -1,0 +1,140 @@
+-- Parts of what happened, told one after the other.
+use Rattle.std.proofs.Common.{◌≡◌, ℕ, ◌<◌, ◌≤◌, ◌&&◌, nat_le, List, [], ◌∷◌, ◌++◌, length, map, take, drop, Bool, true, Option, Some, None, Result, Ok, Err, refl, sym, ap, ◌∙◌, subst, append-nil, append_assoc, arith}
+use Rattle.std.specs.Prelude.{IfOk, IfErr, OnOk}
+use Rattle.std.specs.List.{list_all}
+use Rattle.dap_debuggee.specs.declared.answers.Category.{Category}
+use Rattle.dap_json.specs.declared.more.Member.{Member}
+use Rattle.dap_adapter.specs.AdapterState.{AdapterState}
+use Rattle.dap_live.specs.Dropping.{why_unheard, unless_dropped}
+use Rattle.dap_live.specs.LiveShown.{LiveState}
+use Rattle.dap_live.specs.Hearing.{happening_by}
+use Rattle.dap_live.specs.declared.mail.Coming.{Coming}
+use Rattle.dap_live.specs.declared.mail.Coming.TheVariants.{Output}
+use Rattle.dap_live.specs.declared.mail.Dropped.{Dropped as Drop}
+use Rattle.dap_plan.specs.Polling.{after_happening, has_debuggee}
+use Rattle.dap_plan.specs.Session.{Session}
+use Rattle.dap_plan.specs.declared.fault.AdapterFault.{AdapterFault}
+use Rattle.dap_recording.specs.Pieces.{piece_length, pieces}
+use Rattle.dap_recording.proofs.PieceLemmas.{next_piece}
+use Rattle.dap_host.specs.Hearing.{HostState, SameButAdapter, TellsIt, TellsInTurn, none_told, one_more, TellsUntil, all_told, until, StopsTelling, StopsWithin}
+use Rattle.dap_host.specs.Parts.{texts_told, outputs, outputs_alone}
+
+-- ---- a session in which output was told
+
+phase_by : (d : Option Drop) (category : Category) (text : List ℕ) (more : List Member) (s : Session) → (after_happening (unless_dropped d (happening_by (Output category text more))) s).after.phase ≡ s.phase
+unfolding after_happening
+phase_by None category text more s = refl
+phase_by (Some why) category text more s = refl
+
+pub still_in_a_run : (h k : HostState) (category : Category) (text : List ℕ) (more : List Member) (dropped : Option Drop) (before after : List ℕ) → TellsIt h (Output category text more) dropped before after k → has_debuggee h.adapter.session.phase ≡ true → has_debuggee k.adapter.session.phase ≡ true
+still_in_a_run h k category text more dropped before after tells run =
+    let fetched = ap (λ (a : AdapterState LiveState). has_debuggee a.session.phase) tells.fed.fetched in
+    let told = ap (λ (s : Session). has_debuggee s.phase) tells.fed.after in
+    fetched ∙ told ∙ ap has_debuggee (phase_by (why_unheard (Output category text more) h.adapter.debuggee) category text more h.adapter.session) ∙ run
+
+-- ---- parts in turn
+
+same_both : (a b c : HostState) → SameButAdapter a b → SameButAdapter b c → SameButAdapter a c
+same_both a b c x y = record { limits = y.limits ∙ x.limits; longest = y.longest ∙ x.longest; number = y.number ∙ x.number }
+
+same_in_turn : (old new : HostState) (parts : List Coming) (before after : List ℕ) → TellsInTurn old before parts after new → SameButAdapter old new
+same_in_turn old _ _ before _ none_told = record { limits = refl; longest = refl; number = refl }
+same_in_turn old _ _ before _ (one_more parts part middle after there new tells it) = same_both old there new (same_in_turn old there parts before middle tells) it.same
+
+pub same_until : (old new : HostState) (parts : List Coming) (before after : List ℕ) (dropped : Option Drop) → TellsUntil old parts before after new dropped → SameButAdapter old new
+same_until old new parts before after _ (all_told tells) = same_in_turn old new parts before after tells
+same_until old new parts before after _ (until told later part why middle there are tells it) = same_both old there new (same_in_turn old there told before middle tells) it.same
+
+-- behind a part that was told
+in_turn_behind : (h old new : HostState) (part : Coming) (parts : List Coming) (start before after : List ℕ) → TellsIt h part None start before old → TellsInTurn old before parts after new → TellsInTurn h start (part ∷ parts) after new
+in_turn_behind h old _ part _ start before _ it none_told = one_more [] part start before h old none_told it
+in_turn_behind h old _ part _ start before _ it (one_more parts last middle after there new tells more) =
+    one_more (part ∷ parts) last middle after there new (in_turn_behind h old there part parts start before middle it tells) more
+
+pub until_behind : (h old new : HostState) (part : Coming) (parts : List Coming) (start before after : List ℕ) (dropped : Option Drop) → TellsIt h part None start before old → TellsUntil old parts before after new dropped → TellsUntil h (part ∷ parts) start after new dropped
+until_behind h old new part parts start before after _ it (all_told tells) = all_told (in_turn_behind h old new part parts start before after it tells)
+until_behind h old new part parts start before after _ it (until told later last why middle there are tells drops) =
+    until (part ∷ told) later last why middle there (ap (λ (cs : List Coming). part ∷ cs) are) (in_turn_behind h old there part told start before middle it tells) drops
+
+pub stops_behind : (h old new : HostState) (part : Coming) (parts : List Coming) (start before after : List ℕ) (fault : AdapterFault) → TellsIt h part None start before old → StopsWithin old parts before after new fault → StopsWithin h (part ∷ parts) start after new fault
+stops_behind h old new part parts start before after fault it s = record {
+  told = part ∷ s.told;
+  part = s.part;
+  later = s.later;
+  parts_are = ap (λ (cs : List Coming). part ∷ cs) s.parts_are;
+  middle = s.middle;
+  there = s.there;
+  in_turn = in_turn_behind h old s.there part s.told start before s.middle it s.in_turn;
+  stops = s.stops;
+}
+
+-- the first part is all, or is dropped, or the adapter is closed within it
+pub one_by : (old new : HostState) (part : Coming) (later : List Coming) (before after : List ℕ) (why : Drop) → TellsIt old part (Some why) before after new → TellsUntil old (part ∷ later) before after new (Some why)
+one_by old new part later before after why it = until [] later part why before old refl none_told it
+
+pub one_part : (old new : HostState) (part : Coming) (before after : List ℕ) (dropped : Option Drop) → TellsIt old part dropped before after new → TellsUntil old (part ∷ []) before after new dropped
+one_part old new part before after None it = all_told (one_more [] part before after old new none_told it)
+one_part old new part before after (Some why) it = one_by old new part [] before after why it
+
+pub stops_first : (old new : HostState) (part : Coming) (later : List Coming) (before after : List ℕ) (fault : AdapterFault) → StopsTelling old part before after new fault → StopsWithin old (part ∷ later) before after new fault
+stops_first old new part later before after fault stops = record { told = []; part = part; later = later; parts_are = refl; middle = before; there = old; in_turn = none_told; stops = stops }
+
+-- ---- pieces
+
+-- the first text that is told, and those behind it
+pub texts_are : (text : List ℕ) → texts_told text ≡ take (piece_length text) text ∷ pieces (drop (piece_length text) text ∷ [])
+texts_are [] = refl
+texts_are (c ∷ cs) = next_piece (c ∷ cs) (omega arith)
+
+pub outputs_are : (category : Category) (more : List Member) (text piece rest : List ℕ) → piece ≡ take (piece_length text) text → rest ≡ drop (piece_length text) text
+    → outputs category more (texts_told text) ≡ Output category piece more ∷ outputs_alone category (pieces (rest ∷ []))
+outputs_are category more text piece rest first left =
+    ap (outputs category more) (texts_are text)
+    ∙ ap (λ (t : List ℕ). Output category t more ∷ outputs_alone category (pieces (drop (piece_length text) text ∷ []))) (sym first)
+    ∙ ap (λ (t : List ℕ). Output category piece more ∷ outputs_alone category (pieces (t ∷ []))) (sym left)
+
+-- these pieces of a text were told, and this is left of it
+pub record PartWay (old : HostState) (category : Category) (text before left after : List ℕ) (there : HostState) : Type 0 where
+  pub told : List Coming
+  pub in_turn : TellsInTurn old before told after there
+  pub whole : outputs_alone category (pieces (text ∷ [])) ≡ told ++ outputs_alone category (pieces (left ∷ []))
+
+pub no_part_yet : (old : HostState) (category : Category) (text before : List ℕ) → PartWay old category text before text before old
+no_part_yet old category text before = record { told = []; in_turn = none_told; whole = refl }
+
+-- a piece is the next
+module _ (old : HostState) (category : Category) (text before left middle : List ℕ) (there : HostState) (part_way : PartWay old category text before left middle there) (some : 0 < length left) (piece rest : List ℕ)
+    (first : piece ≡ take (piece_length left) left) (behind : rest ≡ drop (piece_length left) left) where
+  next : outputs_alone category (pieces (text ∷ [])) ≡ part_way.told ++ Output category piece [] ∷ outputs_alone category (pieces (rest ∷ []))
+  next =
+      part_way.whole
+      ∙ ap (λ (ts : List (List ℕ)). part_way.told ++ outputs_alone category ts) (next_piece left some)
+      ∙ ap (λ (t : List ℕ). part_way.told ++ Output category t [] ∷ outputs_alone category (pieces (drop (piece_length left) left ∷ []))) (sym first)
+      ∙ ap (λ (t : List ℕ). part_way.told ++ Output category piece [] ∷ outputs_alone category (pieces (t ∷ []))) (sym behind)
+
+  pub told_on : (new : HostState) (after : List ℕ) → TellsIt there (Output category piece []) None middle after new → PartWay old category text before rest after new
+  told_on new after it = record {
+    told = part_way.told ++ Output category piece [] ∷ [];
+    in_turn = one_more part_way.told (Output category piece []) middle after there new part_way.in_turn it;
+    whole = next ∙ sym (append_assoc part_way.told (Output category piece [] ∷ []) (outputs_alone category (pieces (rest ∷ []))));
+  }
+
+  pub dropped_there : (new : HostState) (after : List ℕ) (why : Drop) → TellsIt there (Output category piece []) (Some why) middle after new → TellsUntil old (outputs_alone category (pieces (text ∷ []))) before after new (Some why)
+  dropped_there new after why it = until part_way.told (outputs_alone category (pieces (rest ∷ []))) (Output category piece []) why middle there next part_way.in_turn it
+
+  pub stops_there : (new : HostState) (after : List ℕ) (fault : AdapterFault) → StopsTelling there (Output category piece []) middle after new fault → StopsWithin old (outputs_alone category (pieces (text ∷ []))) before after new fault
+  stops_there new after fault stops = record {
+    told = part_way.told;
+    part = Output category piece [];
+    later = outputs_alone category (pieces (rest ∷ []));
+    parts_are = next;
+    middle = middle;
+    there = there;
+    in_turn = part_way.in_turn;
+    stops = stops;
+  }
+
+pub none_left : (old : HostState) (category : Category) (text before left after : List ℕ) (there : HostState) → left ≡ [] → PartWay old category text before left after there → TellsUntil old (outputs_alone category (pieces (text ∷ []))) before after there None
+none_left old category text before left after there none p =
+    let all : outputs_alone category (pieces (text ∷ [])) ≡ p.told = p.whole ∙ ap (λ (t : List ℕ). p.told ++ outputs_alone category (pieces (t ∷ []))) none ∙ append-nil p.told in
+    all_told (subst (λ (cs : List Coming). TellsInTurn old before cs after there) (sym all) p.in_turn)
