@@ -3,7 +3,7 @@ use Rattle.std.proofs.Common.{◌≡◌, List, ℕ, [], ◌∷◌, codes, replic
 use Rattle.dap_json.specs.declared.more.Member.{Member}
 use Rattle.dap_command.specs.declared.source_key.SourceKey.{SourceKey}
 use Rattle.dap_command.specs.declared.source_key.SourceKey.TheVariants.{Path, Reference}
-use Rattle.dap_debuggee.specs.Shown.{Act, Reply, to_start, to_resume, to_pause, to_poll, to_set_breakpoints, to_assign, to_end, done, refused, happened, category_name, asked_of_act}
+use Rattle.dap_debuggee.specs.Shown.{Act, Reply, to_start, to_resume, to_pause, to_poll, to_set_breakpoints, to_assign, to_end, done, refused, happened, reason_of, without_reason, category_name, asked_of_act}
 use Rattle.dap_debuggee.specs.Laws.{may_answer, state_after, lines_after, keeps_answers, keeps_frames, Stays, with_assigned, children_after, is_code, is_short, is_frame}
 use Rattle.dap_command.specs.SameSource.{is_source}
 use Rattle.dap_debuggee.specs.declared.answers.State.TheVariants.{NotStarted, Running, Stopped, Gone}
@@ -29,14 +29,14 @@ exited = happened (Exited (pos 0))
 
 -- ---- states
 
-start : (may_answer NotStarted to_start done ≡ true) × (may_answer NotStarted to_start refused ≡ true) × (may_answer Running to_start done ≡ false) × (may_answer Stopped to_start done ≡ false) × (may_answer Gone to_start done ≡ false) × (may_answer Gone to_start refused ≡ true)
+start : (may_answer NotStarted to_start done ≡ true) × (may_answer NotStarted to_start (refused None) ≡ true) × (may_answer Running to_start done ≡ false) × (may_answer Stopped to_start done ≡ false) × (may_answer Gone to_start done ≡ false) × (may_answer Gone to_start (refused None) ≡ true)
 start = (refl, refl, refl, refl, refl, refl)
 
-resume : (may_answer Stopped (to_resume Next (pos 1)) done ≡ true) × (may_answer Stopped (to_resume Next (pos 1)) refused ≡ true) × (may_answer Running (to_resume Next (pos 1)) done ≡ false) × (may_answer NotStarted (to_resume Next (pos 1)) done ≡ false) × (may_answer Gone (to_resume Next (pos 1)) refused ≡ true)
+resume : (may_answer Stopped (to_resume Next (pos 1)) done ≡ true) × (may_answer Stopped (to_resume Next (pos 1)) (refused None) ≡ true) × (may_answer Running (to_resume Next (pos 1)) done ≡ false) × (may_answer NotStarted (to_resume Next (pos 1)) done ≡ false) × (may_answer Gone (to_resume Next (pos 1)) (refused None) ≡ true)
 resume = (refl, refl, refl, refl, refl)
 
 -- an act is answered as its kind is
-answers_of_the_kind : (may_answer Running to_poll done ≡ false) × (may_answer Running to_poll refused ≡ false) × (may_answer Running to_pause (happened Nothing) ≡ false) × (may_answer Stopped (to_set_breakpoints (Reference 1) []) refused ≡ false) × (may_answer Gone to_end refused ≡ false)
+answers_of_the_kind : (may_answer Running to_poll done ≡ false) × (may_answer Running to_poll (refused None) ≡ false) × (may_answer Running to_pause (happened Nothing) ≡ false) × (may_answer Stopped (to_set_breakpoints (Reference 1) []) (refused None) ≡ false) × (may_answer Gone to_end (refused None) ≡ false)
 answers_of_the_kind = (refl, refl, refl, refl, refl)
 
 polls_while_running : (may_answer Running to_poll (happened Nothing) ≡ true) × (may_answer Running to_poll wrote ≡ true) × (may_answer Running to_poll stopped ≡ true) × (may_answer Running to_poll exited ≡ true) × (may_answer Running to_poll continued ≡ false)
@@ -48,7 +48,7 @@ polls_while_stopped = (refl, refl, refl, refl, refl)
 polls_of_what_is_not_there : (may_answer NotStarted to_poll (happened Nothing) ≡ true) × (may_answer NotStarted to_poll wrote ≡ false) × (may_answer Gone to_poll (happened Nothing) ≡ true) × (may_answer Gone to_poll exited ≡ false)
 polls_of_what_is_not_there = (refl, refl, refl, refl)
 
-states : (state_after NotStarted to_start done ≡ Running) × (state_after NotStarted to_start refused ≡ NotStarted) × (state_after Stopped (to_resume Continue (pos 1)) done ≡ Running) × (state_after Stopped (to_resume Continue (pos 1)) refused ≡ Stopped) × (state_after Running to_pause done ≡ Running) × (state_after Running to_poll stopped ≡ Stopped) × (state_after Stopped to_poll continued ≡ Running) × (state_after Stopped to_poll exited ≡ Gone) × (state_after Running to_poll wrote ≡ Running) × (state_after NotStarted to_end done ≡ Gone) × (state_after Stopped (to_set_breakpoints (Reference 1) []) done ≡ Stopped)
+states : (state_after NotStarted to_start done ≡ Running) × (state_after NotStarted to_start (refused None) ≡ NotStarted) × (state_after Stopped (to_resume Continue (pos 1)) done ≡ Running) × (state_after Stopped (to_resume Continue (pos 1)) (refused None) ≡ Stopped) × (state_after Running to_pause done ≡ Running) × (state_after Running to_poll stopped ≡ Stopped) × (state_after Stopped to_poll continued ≡ Running) × (state_after Stopped to_poll exited ≡ Gone) × (state_after Running to_poll wrote ≡ Running) × (state_after NotStarted to_end done ≡ Gone) × (state_after Stopped (to_set_breakpoints (Reference 1) []) done ≡ Stopped)
 states = (refl, refl, refl, refl, refl, refl, refl, refl, refl, refl, refl)
 
 -- ---- what an act changes
@@ -62,7 +62,7 @@ lines = (refl, refl, refl, refl)
 keys : (is_source (Path (codes "a")) (Path (codes "a")) ≡ true) × (is_source (Path (codes "a")) (Path (codes "A")) ≡ false) × (is_source (Reference 1) (Reference 1) ≡ true) × (is_source (Reference 1) (Reference 2) ≡ false) × (is_source (Reference 49) (Path (codes "1")) ≡ false)
 keys = (refl, refl, refl, refl, refl)
 
-all_answers_stay : (keeps_answers to_start refused ≡ true) × (keeps_answers (to_resume Next (pos 1)) refused ≡ true) × (keeps_answers to_pause done ≡ true) × (keeps_answers (to_set_breakpoints (Reference 1) []) done ≡ true) × (keeps_answers to_poll wrote ≡ false) × (keeps_answers to_start done ≡ false)
+all_answers_stay : (keeps_answers to_start (refused None) ≡ true) × (keeps_answers (to_resume Next (pos 1)) (refused None) ≡ true) × (keeps_answers to_pause done ≡ true) × (keeps_answers (to_set_breakpoints (Reference 1) []) done ≡ true) × (keeps_answers to_poll wrote ≡ false) × (keeps_answers to_start done ≡ false)
 all_answers_stay = (refl, refl, refl, refl, refl, refl)
 
 frames_stay : (keeps_frames to_poll wrote ≡ true) × (keeps_frames to_poll (happened Nothing) ≡ true) × (keeps_frames to_pause done ≡ true) × (keeps_frames to_poll stopped ≡ false) × (keeps_frames to_poll continued ≡ false) × (keeps_frames to_poll exited ≡ false) × (keeps_frames (to_resume Next (pos 1)) done ≡ false) × (keeps_frames to_end done ≡ false)
@@ -83,7 +83,7 @@ memory_of_acts = (refl, refl, refl)
 abbrev assign : Act
 assign = to_assign 1 (codes "x") (codes "9")
 
-acts_of_setting : (may_answer Stopped assign done ≡ true) × (may_answer Running assign done ≡ true) × (may_answer Stopped assign refused ≡ false) × (state_after Stopped assign done ≡ Stopped) × (lines_after assign line_1_of_all (Reference 1) ≡ 1 ∷ []) × (keeps_answers assign done ≡ false) × (keeps_frames assign done ≡ false) × (asked_of_act assign ≡ remembers.Assign)
+acts_of_setting : (may_answer Stopped assign done ≡ true) × (may_answer Running assign done ≡ true) × (may_answer Stopped assign (refused None) ≡ false) × (state_after Stopped assign done ≡ Stopped) × (lines_after assign line_1_of_all (Reference 1) ≡ 1 ∷ []) × (keeps_answers assign done ≡ false) × (keeps_frames assign done ≡ false) × (asked_of_act assign ≡ remembers.Assign)
 acts_of_setting = (refl, refl, refl, refl, refl, refl, refl, refl)
 
 abbrev one : List ℕ → List ℕ → Variable
