@@ -14,6 +14,7 @@ use Rattle.dap_debuggee.specs.declared.answers.Frame.{Frame}
 use Rattle.dap_debuggee.specs.declared.answers.Happening.TheVariants.{Nothing, Output, Stopped as StoppedBy, Continued, Exited}
 use Rattle.dap_debuggee.specs.declared.answers.Variable.{Variable}
 use Rattle.dap_debuggee.specs.declared.answers.Assigned.{Assigned}
+use Rattle.dap_debuggee.specs.declared.explanation.Explanation.{Explanation}
 
 abbrev wrote : Reply
 wrote = happened (Output Stdout (codes "x") [])
@@ -77,6 +78,25 @@ does_not_go x stays = cc (stays x refl)
 
 memory_of_acts : (asked_of_act (to_resume Next (pos 7)) ≡ remembers.Resume Next (pos 7)) × (asked_of_act (to_set_breakpoints (Reference 1) (2 ∷ [])) ≡ remembers.SetBreakpoints) × (asked_of_act to_end ≡ remembers.End)
 memory_of_acts = (refl, refl, refl)
+
+-- ---- why an act is refused
+
+abbrev why : Option Explanation
+why = Some (record { text = codes "There is no such program."; show_user = true })
+
+-- what may be answered, and what stays, is the same with a reason
+answers_with_a_reason : (may_answer NotStarted to_start (refused why) ≡ true) × (may_answer Gone (to_resume Next (pos 1)) (refused why) ≡ true) × (may_answer Stopped to_pause (refused why) ≡ true) × (may_answer Running to_poll (refused why) ≡ false) × (may_answer Gone to_end (refused why) ≡ false)
+answers_with_a_reason = (refl, refl, refl, refl, refl)
+
+stays_with_a_reason : (state_after NotStarted to_start (refused why) ≡ NotStarted) × (state_after Stopped (to_resume Next (pos 1)) (refused why) ≡ Stopped) × (keeps_answers to_start (refused why) ≡ true) × (keeps_frames (to_resume Next (pos 1)) (refused why) ≡ true)
+stays_with_a_reason = (refl, refl, refl, refl)
+
+-- nobody has to remember it
+reasons_forgotten : (without_reason (refused why) ≡ refused None) × (without_reason (refused None) ≡ refused None) × (without_reason done ≡ done) × (without_reason exited ≡ exited)
+reasons_forgotten = (refl, refl, refl, refl)
+
+reasons_told : (reason_of (refused why) ≡ why) × (reason_of (refused None) ≡ None) × (reason_of done ≡ None) × (reason_of wrote ≡ None)
+reasons_told = (refl, refl, refl, refl)
 
 -- ---- a value that is set
 
