@@ -41,8 +41,19 @@ pub data Act : Type 0 where
 -- what it answers to an act
 pub data Reply : Type 0 where
   done : Reply
-  refused : Reply
+  -- with why, where that is said
+  refused : Option Explanation → Reply
   happened : Happening → Reply
+
+-- why it refuses, where it does and says so
+abbrev pub reason_of : Reply → Option Explanation
+reason_of (refused why) = why
+reason_of _ = None
+
+-- a reply as it is remembered
+abbrev pub without_reason : Reply → Reply
+without_reason (refused why) = refused None
+without_reason reply = reply
 
 -- an act as it is remembered: with its how and its thread
 abbrev pub asked_of_act : Act → Asked
@@ -54,7 +65,7 @@ asked_of_act (to_set_breakpoints source lines) = SetBreakpoints
 asked_of_act (to_assign holder name text) = Assign
 asked_of_act to_end = End
 
--- the last act, with its answer
+-- the last act, with its answer, but not why it was refused
 pub record Last : Type 0 where
   pub asked : Asked
   pub reply : Reply

@@ -84,10 +84,10 @@ pub enum Happening {
     },
 }
 
-/// Why a debuggee did not do or tell what it was asked.
+/// Why a debuggee did not tell what it was asked.
 #[derive(Clone, Copy, Debug, PartialEq, Eq)]
 pub enum DebuggeeFault {
-    /// It was asked outside its state, or has no answer.
+    /// It has no answer.
     Refused,
     /// Memory was refused.
     OutOfMemory,

@@ -149,10 +149,10 @@ at_stop later said = let fresh : LiveState = fresh_live (source ∷ []) in recor
 abbrev at : State → Option Coming → LiveState
 at state said = let stop : LiveState = at_stop true said in record stop { state = state }
 
-starts : (reply_to to_start (at NotStarted None) ≡ done) × (reply_to to_start (at Stopped None) ≡ refused) × (reply_to to_start (at Gone None) ≡ refused)
+starts : (reply_to to_start (at NotStarted None) ≡ done) × (reply_to to_start (at Stopped None) ≡ refused None) × (reply_to to_start (at Gone None) ≡ refused None)
 starts = (refl, refl, refl)
 
-resumes : (reply_to (to_resume Next (pos 1)) (at Stopped None) ≡ done) × (reply_to (to_resume Next (pos 1)) (at Running None) ≡ refused) × (reply_to to_pause (at Running None) ≡ done) × (reply_to to_pause (at Stopped None) ≡ refused)
+resumes : (reply_to (to_resume Next (pos 1)) (at Stopped None) ≡ done) × (reply_to (to_resume Next (pos 1)) (at Running None) ≡ refused None) × (reply_to to_pause (at Running None) ≡ done) × (reply_to to_pause (at Stopped None) ≡ refused None)
 resumes = (refl, refl, refl, refl)
 
 abbrev seven : Coming
@@ -183,7 +183,7 @@ says : with_coming two (with_dropped (Some Told) (with_coming seven no_mail)) �
 says = refl
 
 -- acts come in the order in which they were asked; a refused one does not
-acts_in_order : ((mail_after (to_resume Next (pos 1)) done (at Stopped None)).acts ≡ act.Start ∷ act.Resume Next (pos 1) ∷ []) × ((mail_after (to_resume Next (pos 1)) refused (at Running None)).acts ≡ act.Start ∷ []) × ((mail_after (to_assign 1 (codes "x") (codes "9")) done (at Stopped None)).acts ≡ act.Start ∷ act.Assign 1 (codes "x") (codes "9") ∷ []) × ((mail_after (to_set_breakpoints (Reference 1) (2 ∷ [])) done (at Gone None)).acts ≡ act.Start ∷ act.SetBreakpoints (Reference 1) (2 ∷ []) ∷ [])
+acts_in_order : ((mail_after (to_resume Next (pos 1)) done (at Stopped None)).acts ≡ act.Start ∷ act.Resume Next (pos 1) ∷ []) × ((mail_after (to_resume Next (pos 1)) (refused None) (at Running None)).acts ≡ act.Start ∷ []) × ((mail_after (to_assign 1 (codes "x") (codes "9")) done (at Stopped None)).acts ≡ act.Start ∷ act.Assign 1 (codes "x") (codes "9") ∷ []) × ((mail_after (to_set_breakpoints (Reference 1) (2 ∷ [])) done (at Gone None)).acts ≡ act.Start ∷ act.SetBreakpoints (Reference 1) (2 ∷ []) ∷ [])
 acts_in_order = (refl, refl, refl, refl)
 
 -- an end right behind an end is that end

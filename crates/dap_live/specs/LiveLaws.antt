@@ -6,7 +6,7 @@ use Rattle.std.specs.List.{slice_get}
 use Rattle.std.specs.Option.{IsSome}
 use Rattle.dap_json.specs.declared.more.Member.{Member}
 use Rattle.dap_command.specs.declared.source_key.SourceKey.{SourceKey}
-use Rattle.dap_debuggee.specs.Shown.{Act, to_start, to_resume, to_pause, to_poll, to_set_breakpoints, to_assign, to_end, Reply, done, refused, happened, asked_of_act, Last}
+use Rattle.dap_debuggee.specs.Shown.{Act, to_start, to_resume, to_pause, to_poll, to_set_breakpoints, to_assign, to_end, Reply, done, refused, happened, without_reason, asked_of_act, Last}
 use Rattle.dap_debuggee.specs.Laws.{may_answer, may_happen, is_short, state_after, lines_after, keeps_answers, keeps_frames, variable_named, with_assigned, children_after, Stays, Counts, Remembers, Answers, Moves, SetsLines, SetsValues, KeepsAnswers, KeepsFrames, KeepsSources, FramesStay, SourcesStay, SameFrames, SameSources, NoThreads, VerifiesEach, AssignsVariables}
 use Rattle.dap_debuggee.specs.StayLaws.{frames-stay, sources-stay}
 use Rattle.dap_debuggee.specs.declared.answers.State.{State}
@@ -19,6 +19,7 @@ use Rattle.dap_debuggee.specs.declared.answers.Variable.{Variable}
 use Rattle.dap_debuggee.specs.declared.answers.Assigned.{Assigned}
 use Rattle.dap_debuggee.specs.declared.answers.Placement.{Placement}
 use Rattle.dap_command.specs.SameSource.{is_source}
+use Rattle.dap_debuggee.specs.declared.explanation.Explanation.{Explanation}
 use Rattle.dap_recording.specs.Sources.{source_shown, text_at, lines_verified}
 use Rattle.dap_recording.specs.SourceLaws.{shown-stay, texts-stay, each-verified}
 use Rattle.dap_recording.specs.Variables.{with_variables, variables_at, first_of, assigned_of}
@@ -45,21 +46,21 @@ use Rattle.dap_live.specs.LiveShown.{LiveState, shown_live, now_shown, threads_i
 -- it is started where it is not started, goes on where it is stopped, and is asked to stop where it runs
 abbrev pub reply_to_start : State → Reply
 reply_to_start NotStarted = done
-reply_to_start Running = refused
-reply_to_start Stopped = refused
-reply_to_start Gone = refused
+reply_to_start Running = refused None
+reply_to_start Stopped = refused None
+reply_to_start Gone = refused None
 
 abbrev pub reply_to_resume : State → Reply
-reply_to_resume NotStarted = refused
-reply_to_resume Running = refused
+reply_to_resume NotStarted = refused None
+reply_to_resume Running = refused None
 reply_to_resume Stopped = done
-reply_to_resume Gone = refused
+reply_to_resume Gone = refused None
 
 abbrev pub reply_to_pause : State → Reply
-reply_to_pause NotStarted = refused
+reply_to_pause NotStarted = refused None
 reply_to_pause Running = done
-reply_to_pause Stopped = refused
-reply_to_pause Gone = refused
+reply_to_pause Stopped = refused None
+reply_to_pause Gone = refused None
 
 -- a poll gives just what the host said last, or nothing
 abbrev pub reply_to : Act → LiveState → Reply
@@ -123,7 +124,7 @@ view_after a reply v = record {
   state = state_after v.state a reply;
   set = set_after a v.set;
   acts = (v.acts + 1) % 2 ^ 64;
-  last = Some (record { asked = asked_of_act a; reply = reply });
+  last = Some (record { asked = asked_of_act a; reply = without_reason reply });
   mail = mail_after a reply v;
 }
 
@@ -140,17 +141,17 @@ pub record FollowsLive (v : LiveState) (a : Act) (r : Reply) (w : LiveState) : T
 
 -- ---- states
 
-same_start : (s : State) → state_after s to_start refused ≡ s
-same_start NotStarted = refl
-same_start Running = refl
-same_start Stopped = refl
-same_start Gone = refl
+same_start : (s : State) (why : Option Explanation) → state_after s to_start (refused why) ≡ s
+same_start NotStarted why = refl
+same_start Running why = refl
+same_start Stopped why = refl
+same_start Gone why = refl
 
-same_resume : (s : State) (how : How) (thread : ℤ) → state_after s (to_resume how thread) refused ≡ s
-same_resume NotStarted how thread = refl
-same_resume Running how thread = refl
-same_resume Stopped how thread = refl
-same_resume Gone how thread = refl
+same_resume : (s : State) (how : How) (thread : ℤ) (why : Option Explanation) → state_after s (to_resume how thread) (refused why) ≡ s
+same_resume NotStarted how thread why = refl
+same_resume Running how thread why = refl
+same_resume Stopped how thread why = refl
+same_resume Gone how thread why = refl
 
 same_pause : (s : State) (r : Reply) → state_after s to_pause r ≡ s
 same_pause NotStarted r = refl
@@ -185,14 +186,14 @@ same_assigns Gone holder name text r = refl
 -- what keeps the frames keeps the state
 same_state : (s : State) (a : Act) (r : Reply) → IsTrue (keeps_frames a r) → state_after s a r ≡ s
 same_state s to_start done k = absurd (true≢false (sym k))
-same_state s to_start refused k = same_start s
+same_state s to_start (refused why) k = same_start s why
 same_state s to_start (happened h) k = absurd (true≢false (sym k))
 same_state s (to_resume how thread) done k = absurd (true≢false (sym k))
-same_state s (to_resume how thread) refused k = same_resume s how thread
+same_state s (to_resume how thread) (refused why) k = same_resume s how thread why
 same_state s (to_resume how thread) (happened h) k = absurd (true≢false (sym k))
 same_state s to_pause r k = same_pause s r
 same_state s to_poll done k = absurd (true≢false (sym k))
-same_state s to_poll refused k = absurd (true≢false (sym k))
+same_state s to_poll (refused why) k = absurd (true≢false (sym k))
 same_state s to_poll (happened happening.Nothing) k = same_nothing s
 same_state s to_poll (happened (happening.Output category text more)) k = same_output s category text more
 same_state s to_poll (happened (happening.Stopped reason thread more)) k = absurd (true≢false (sym k))
@@ -508,10 +509,10 @@ keeps_sources-live v w a r f = sources_stay_by v w a (ap (λ (u : LiveState). u.
 -- no act takes away where the host said that breakpoints are
 placed_stays : (a : Act) (r : Reply) (v : LiveState) → (mail_after a r v).placed ≡ v.mail.placed
 placed_stays to_start done v = refl
-placed_stays to_start refused v = refl
+placed_stays to_start (refused why) v = refl
 placed_stays to_start (happened h) v = refl
 placed_stays (to_resume how thread) done v = refl
-placed_stays (to_resume how thread) refused v = refl
+placed_stays (to_resume how thread) (refused why) v = refl
 placed_stays (to_resume how thread) (happened h) v = refl
 placed_stays to_pause done v = refl
 placed_stays to_pause refused v = refl

@@ -12,7 +12,7 @@ use crate::here::Here;
 use crate::mail::{Coming, Dropped, HostAct, Mail};
 use dap_command::SourceKey;
 use dap_debuggee::{
-    Asked, Assigned, Debuggee, DebuggeeFault, Evaluation, Explanation, Frame, Happening, HasMail,
+    ActFault, Asked, Assigned, Debuggee, DebuggeeFault, Evaluation, Explanation, Frame, Happening, HasMail,
     How, Placement, RefusedQuery, Scope, Source, State, Thread, Variable,
 };
 use dap_json::{List, More, Text};
@@ -495,7 +495,7 @@ impl Debuggee for Live {
 
     ghost follows = { FollowsLive };
 
-    fn start(&mut self, _alloc: Global) -> Result<(), DebuggeeFault> {
+    fn start(&mut self, _alloc: Global) -> Result<(), ActFault> {
         match self.state {
             State::NotStarted => {
                 self.ask(HostAct::Start)?;
@@ -504,12 +504,12 @@ impl Debuggee for Live {
             }
             State::Running | State::Stopped | State::Gone => {
                 self.note(LiveLast::Refused(Asked::Start));
-                Err(DebuggeeFault::Refused)
+                Err(ActFault::Refused(None))
             }
         }
     }
 
-    fn resume(&mut self, _alloc: Global, how: How, thread: i64) -> Result<(), DebuggeeFault> {
+    fn resume(&mut self, _alloc: Global, how: How, thread: i64) -> Result<(), ActFault> {
         match self.state {
             State::Stopped => {
                 self.ask(HostAct::Resume { how, thread })?;
@@ -518,12 +518,12 @@ impl Debuggee for Live {
             }
             State::NotStarted | State::Running | State::Gone => {
                 self.note(LiveLast::Refused(Asked::Resume { how, thread }));
-                Err(DebuggeeFault::Refused)
+                Err(ActFault::Refused(None))
             }
         }
     }
 
-    fn pause(&mut self, _alloc: Global) -> Result<(), DebuggeeFault> {
+    fn pause(&mut self, _alloc: Global) -> Result<(), ActFault> {
         match self.state {
             State::Running => {
                 self.ask(HostAct::Pause)?;
@@ -531,7 +531,7 @@ impl Debuggee for Live {
             }
             State::NotStarted | State::Stopped | State::Gone => {
                 self.note(LiveLast::Refused(Asked::Pause));
-                Err(DebuggeeFault::Refused)
+                Err(ActFault::Refused(None))
             }
         }
     }

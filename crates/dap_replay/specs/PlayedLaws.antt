@@ -28,11 +28,11 @@ use Rattle.dap_recording.specs.Sources.{lines_verified}
 
 data Row (v : Played) : Act → Reply → Played → Type 0 where
   starts : v.state ≡ NotStarted → Row v to_start done (after_start v)
-  does_not_start : Row v to_start refused v
+  does_not_start : Row v to_start (refused None) v
   resumes : (how : How) (thread : ℤ) → v.state ≡ Stopped → Row v (to_resume how thread) done (after_resume how v)
-  does_not_resume : (how : How) (thread : ℤ) → Row v (to_resume how thread) refused v
+  does_not_resume : (how : How) (thread : ℤ) → Row v (to_resume how thread) (refused None) v
   pauses : (run : Option Run) → v.state ≡ Running → Row v to_pause done (with_pause run v)
-  does_not_pause : Row v to_pause refused v
+  does_not_pause : Row v to_pause (refused None) v
   gives_nothing : Row v to_poll (happened happening.Nothing) v
   holds : (run : Run) → Row v to_poll (happened happening.Nothing) (with_run run v)
   tells : (piece : List ℕ) (run : Run) → v.state ≡ Running → Row v to_poll (happened (happening.Output Stdout piece [])) (with_run run v)
@@ -92,19 +92,19 @@ act_row v to_end = ends
 
 -- ---- in each state
 
-pub refused_start : (s : State) → may_answer s to_start refused ≡ true
+pub refused_start : (s : State) → may_answer s to_start (refused None) ≡ true
 refused_start NotStarted = refl
 refused_start Running = refl
 refused_start Stopped = refl
 refused_start Gone = refl
 
-refused_resume : (s : State) (how : How) (thread : ℤ) → may_answer s (to_resume how thread) refused ≡ true
+refused_resume : (s : State) (how : How) (thread : ℤ) → may_answer s (to_resume how thread) (refused None) ≡ true
 refused_resume NotStarted how thread = refl
 refused_resume Running how thread = refl
 refused_resume Stopped how thread = refl
 refused_resume Gone how thread = refl
 
-refused_pause : (s : State) → may_answer s to_pause refused ≡ true
+refused_pause : (s : State) → may_answer s to_pause (refused None) ≡ true
 refused_pause NotStarted = refl
 refused_pause Running = refl
 refused_pause Stopped = refl
@@ -140,7 +140,7 @@ start_state Running = refl
 start_state Stopped = refl
 start_state Gone = refl
 
-pub same_start : (s : State) → s ≡ state_after s to_start refused
+pub same_start : (s : State) → s ≡ state_after s to_start (refused None)
 same_start NotStarted = refl
 same_start Running = refl
 same_start Stopped = refl
@@ -152,7 +152,7 @@ resume_state Running how thread = refl
 resume_state Stopped how thread = refl
 resume_state Gone how thread = refl
 
-same_resume : (s : State) (how : How) (thread : ℤ) → s ≡ state_after s (to_resume how thread) refused
+same_resume : (s : State) (how : How) (thread : ℤ) → s ≡ state_after s (to_resume how thread) (refused None)
 same_resume NotStarted how thread = refl
 same_resume Running how thread = refl
 same_resume Stopped how thread = refl
@@ -243,7 +243,7 @@ state_row v _ _ _ does_not_start = same_start v.state
 state_row v _ _ _ (resumes how thread is) = resume_state v.state how thread
 state_row v _ _ _ (does_not_resume how thread) = same_resume v.state how thread
 state_row v _ _ _ (pauses run is) = same_pause v.state done
-state_row v _ _ _ does_not_pause = same_pause v.state refused
+state_row v _ _ _ does_not_pause = same_pause v.state (refused None)
 state_row v _ _ _ gives_nothing = same_nothing v.state
 state_row v _ _ _ (holds run) = same_nothing v.state
 state_row v _ _ _ (tells piece run is) = same_output v.state piece
