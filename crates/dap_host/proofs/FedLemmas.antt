@@ -24,8 +24,8 @@ use Rattle.dap_plan.specs.Polling.{after_happening, after_poll_reply, has_debugg
 use Rattle.dap_plan.specs.Session.{Session}
 use Rattle.dap_plan.specs.SessionState.{SessionState}
 use Rattle.dap_plan.specs.declared.fault.AdapterFault.{AdapterFault}
-use Rattle.dap_live.specs.declared.mail.Placed.{Placed}
-use Rattle.dap_host.specs.Fed.{AnswersFed, TellsFed, mail_placing, over_mail}
+use Rattle.dap_live.specs.declared.mail.Ahead.{Ahead}
+use Rattle.dap_host.specs.Fed.{AnswersFed, TellsFed, mail_ahead, over_mail}
 
 -- ---- mail
 
@@ -137,9 +137,9 @@ stops_from old p new c none bytes fault is unbroken empty stops =
     subst (λ (z : List ℕ). StopsAfter shown_live FollowsLive (over_mail (with_coming c no_mail) old) (to_poll_next 0) [] z fault new bytes) empty
     (subst (λ (a : AdapterState LiveState). StopsAfter shown_live FollowsLive a (to_poll_next 0) [] none fault new bytes) is (stops (ap (λ (a : AdapterState LiveState). a.fault) is ∙ unbroken)))
 
-pub answers_from : (old p there : AdapterState LiveState) (placed : Option Placed) (body none bytes : List ℕ) (ended : Bool) → p ≡ over_mail (mail_placing placed) old → none ≡ [] → AnswersPiece shown_live FollowsLive p (frame_of body) none there bytes ended
-    → (new : AdapterState LiveState) (acts : List HostAct) → acts ≡ there.debuggee.mail.acts → new ≡ over_mail no_mail there → AnswersFed old placed body bytes acts new
-answers_from old p there placed body none bytes ended is empty answers new acts are fetched = record {
+pub answers_from : (old p there : AdapterState LiveState) (ahead : Ahead) (body none bytes : List ℕ) (ended : Bool) → p ≡ over_mail (mail_ahead ahead) old → none ≡ [] → AnswersPiece shown_live FollowsLive p (frame_of body) none there bytes ended
+    → (new : AdapterState LiveState) (acts : List HostAct) → acts ≡ there.debuggee.mail.acts → new ≡ over_mail no_mail there → AnswersFed old ahead body bytes acts new
+answers_from old p there ahead body none bytes ended is empty answers new acts are fetched = record {
   there = there;
   ended = ended;
   answers = subst (λ (a : AdapterState LiveState). AnswersPiece shown_live FollowsLive a (frame_of body) [] there bytes ended) is
@@ -148,10 +148,10 @@ answers_from old p there placed body none bytes ended is empty answers new acts 
   fetched = fetched;
 }
 
-pub breaks_from : (old p new : AdapterState LiveState) (placed : Option Placed) (body none bytes : List ℕ) (fault : AdapterFault) → p ≡ over_mail (mail_placing placed) old → old.fault ≡ None → none ≡ []
-    → (p.fault ≡ None → StopsAfter shown_live FollowsLive p to_take (frame_of body) none fault new bytes) → StopsAfter shown_live FollowsLive (over_mail (mail_placing placed) old) to_take (frame_of body) [] fault new bytes
-breaks_from old p new placed body none bytes fault is unbroken empty stops =
-    subst (λ (z : List ℕ). StopsAfter shown_live FollowsLive (over_mail (mail_placing placed) old) to_take (frame_of body) z fault new bytes) empty
+pub breaks_from : (old p new : AdapterState LiveState) (ahead : Ahead) (body none bytes : List ℕ) (fault : AdapterFault) → p ≡ over_mail (mail_ahead ahead) old → old.fault ≡ None → none ≡ []
+    → (p.fault ≡ None → StopsAfter shown_live FollowsLive p to_take (frame_of body) none fault new bytes) → StopsAfter shown_live FollowsLive (over_mail (mail_ahead ahead) old) to_take (frame_of body) [] fault new bytes
+breaks_from old p new ahead body none bytes fault is unbroken empty stops =
+    subst (λ (z : List ℕ). StopsAfter shown_live FollowsLive (over_mail (mail_ahead ahead) old) to_take (frame_of body) z fault new bytes) empty
     (subst (λ (a : AdapterState LiveState). StopsAfter shown_live FollowsLive a to_take (frame_of body) none fault new bytes) is (stops (ap (λ (a : AdapterState LiveState). a.fault) is ∙ unbroken)))
 
 pub ok_by_two : {A E : Type 0} {P S : A → Type 0} {Q : Type 0} (r : Result A E) → ((x : A) → P x → Q → S x) → IfOk r P → OnOk r Q → IfOk r S

@@ -12,7 +12,7 @@ use Rattle.dap_frame.specs.Settings.{Settings, AreInRange}
 use Rattle.dap_frame.specs.Written.{frame_of}
 use Rattle.dap_live.specs.LiveLaws.{FollowsLive}
 use Rattle.dap_live.specs.LiveShown.{LiveState, shown_live, fresh_live}
-use Rattle.dap_live.specs.MailState.{MailState, no_mail, with_coming}
+use Rattle.dap_live.specs.MailState.{MailState, nothing_ahead, no_mail, with_coming}
 use Rattle.dap_envelope.specs.declared.message.Message.{Message}
 use Rattle.dap_outbox.specs.Draft.{bytes_of}
 use Rattle.dap_recording.specs.declared.recording.RecordedSource.{RecordedSource}
@@ -20,8 +20,8 @@ use Rattle.dap_plan.specs.Polling.{has_debuggee}
 use Rattle.dap_command.specs.declared.offer.Offer.{Offer}
 use Rattle.dap_plan.specs.Session.{Session, opened_session}
 use Rattle.dap_plan.specs.declared.fault.AdapterFault.{AdapterFault}
-use Rattle.dap_host.specs.Fed.{AnswersFed, TellsFed, mail_placing, over_mail}
-use Rattle.dap_host.specs.Hearing.{HostState, with_placed, sources_there, IsGoing, SameButAdapter, TakesMessage, AnswersMessage, TellsIt, StopsMessage, StopsTelling, RefusesTold, bad_moment, dropped, IsUnheard, drop_of}
+use Rattle.dap_host.specs.Fed.{AnswersFed, TellsFed, mail_ahead, over_mail}
+use Rattle.dap_host.specs.Hearing.{HostState, with_ahead, sources_there, IsGoing, SameButAdapter, TakesMessage, AnswersMessage, TellsIt, StopsMessage, StopsTelling, RefusesTold, bad_moment, dropped, IsUnheard, drop_of}
 use Rattle.dap_line.specs.Written.{message_lines, act_lines}
 use Rattle.dap_live.specs.declared.mail.Coming.{Coming}
 use Rattle.dap_live.specs.declared.mail.Dropped.{Dropped as Drop}
@@ -76,13 +76,13 @@ given_between mail h laws going = laws.exchanged h.adapter (over_mail mail h.ada
 -- ---- a message is answered, or the adapter is closed by it
 
 -- the body is the one message that came
-one_came : (h : HostState) (there : AdapterState LiveState) (body bytes : List ℕ) (ended : Bool) (going : IsGoing h) → AreInRange h.limits → Laws → TakesMessage h body → (a : AnswersPiece shown_live FollowsLive (over_mail (mail_placing h.placed) h.adapter) (frame_of body) [] there bytes ended) → (a.runs_on.bodies ≡ body ∷ []) × IsBetween there
+one_came : (h : HostState) (there : AdapterState LiveState) (body bytes : List ℕ) (ended : Bool) (going : IsGoing h) → AreInRange h.limits → Laws → TakesMessage h body → (a : AnswersPiece shown_live FollowsLive (over_mail (mail_ahead h.ahead) h.adapter) (frame_of body) [] there bytes ended) → (a.runs_on.bodies ≡ body ∷ []) × IsBetween there
 one_came h there body bytes ended going range laws takes a =
     let fits : length body ≤ h.adapter.session.limits.body = subst (λ (z : Settings). length body ≤ z.body) (sym going.limits_are) takes.fits in
-    laws.answered (over_mail (mail_placing h.placed) h.adapter) there body [] bytes ended (given_between (mail_placing h.placed) h laws going) (in_range h going range) fits takes.going a
+    laws.answered (over_mail (mail_ahead h.ahead) h.adapter) there body [] bytes ended (given_between (mail_ahead h.ahead) h laws going) (in_range h going range) fits takes.going a
 
-pub answered : (h k : HostState) (body bytes before after : List ℕ) (acts : List HostAct) → IsGoing h → AreInRange h.limits → Laws → TakesMessage h body → AnswersFed h.adapter h.placed body bytes acts k.adapter
-    → ((outs : List Message) → bytes ≡ bytes_of outs → after ≡ before ++ (message_lines outs ++ act_lines acts)) → SameButAdapter (with_placed None h) k → AnswersMessage h body before after k
+pub answered : (h k : HostState) (body bytes before after : List ℕ) (acts : List HostAct) → IsGoing h → AreInRange h.limits → Laws → TakesMessage h body → AnswersFed h.adapter h.ahead body bytes acts k.adapter
+    → ((outs : List Message) → bytes ≡ bytes_of outs → after ≡ before ++ (message_lines outs ++ act_lines acts)) → SameButAdapter (with_ahead nothing_ahead h) k → AnswersMessage h body before after k
 answered h k body bytes before after acts going range laws takes fed hands same =
     record {
       bytes = bytes;
@@ -93,11 +93,11 @@ answered h k body bytes before after acts going range laws takes fed hands same 
       same = same;
     }
 
-pub goes_on : (h k : HostState) (body bytes : List ℕ) (acts : List HostAct) → IsGoing h → AreInRange h.limits → Laws → TakesMessage h body → AnswersFed h.adapter h.placed body bytes acts k.adapter → k.limits ≡ h.limits → IsGoing k
+pub goes_on : (h k : HostState) (body bytes : List ℕ) (acts : List HostAct) → IsGoing h → AreInRange h.limits → Laws → TakesMessage h body → AnswersFed h.adapter h.ahead body bytes acts k.adapter → k.limits ≡ h.limits → IsGoing k
 goes_on h k body bytes acts going range laws takes fed limits =
     goes_fetched h k fed.there laws going fed.answers.runs_on.limits limits (one_came h fed.there body bytes fed.ended going range laws takes fed.answers).1 fed.fetched
 
-pub stopped : (h k : HostState) (body bytes before after : List ℕ) (fault : AdapterFault) → StopsAfter shown_live FollowsLive (over_mail (mail_placing h.placed) h.adapter) to_take (frame_of body) [] fault k.adapter bytes
+pub stopped : (h k : HostState) (body bytes before after : List ℕ) (fault : AdapterFault) → StopsAfter shown_live FollowsLive (over_mail (mail_ahead h.ahead) h.adapter) to_take (frame_of body) [] fault k.adapter bytes
     → ((outs : List Message) → bytes ≡ bytes_of outs → after ≡ before ++ message_lines outs) → StopsMessage h body before after k fault
 stopped h k body bytes before after fault stops hands = record { bytes = bytes; stops = stops; lines = hands stops.outs stops.appended }
 
@@ -117,15 +117,15 @@ stopped_telling h k c bytes before after fault stops hands = record { bytes = by
 
 -- ---- the same of a host that is taken apart
 
-pub answered_at : (o h k : HostState) (body bytes before after : List ℕ) (acts : List HostAct) → o ≡ h → IsGoing h → AreInRange o.limits → Laws → TakesMessage h body → AnswersFed o.adapter o.placed body bytes acts k.adapter
-    → ((outs : List Message) → bytes ≡ bytes_of outs → after ≡ before ++ (message_lines outs ++ act_lines acts)) → SameButAdapter (with_placed None o) k → AnswersMessage h body before after k
+pub answered_at : (o h k : HostState) (body bytes before after : List ℕ) (acts : List HostAct) → o ≡ h → IsGoing h → AreInRange o.limits → Laws → TakesMessage h body → AnswersFed o.adapter o.ahead body bytes acts k.adapter
+    → ((outs : List Message) → bytes ≡ bytes_of outs → after ≡ before ++ (message_lines outs ++ act_lines acts)) → SameButAdapter (with_ahead nothing_ahead o) k → AnswersMessage h body before after k
 answered_at o h k body bytes before after acts e going range laws takes fed hands same =
     subst (λ (z : HostState). AnswersMessage z body before after k) e (answered o k body bytes before after acts (subst IsGoing (sym e) going) range laws (subst (λ (z : HostState). TakesMessage z body) (sym e) takes) fed hands same)
 
-pub goes_on_at : (o h k : HostState) (body bytes : List ℕ) (acts : List HostAct) → o ≡ h → IsGoing h → AreInRange o.limits → Laws → TakesMessage h body → AnswersFed o.adapter o.placed body bytes acts k.adapter → k.limits ≡ o.limits → IsGoing k
+pub goes_on_at : (o h k : HostState) (body bytes : List ℕ) (acts : List HostAct) → o ≡ h → IsGoing h → AreInRange o.limits → Laws → TakesMessage h body → AnswersFed o.adapter o.ahead body bytes acts k.adapter → k.limits ≡ o.limits → IsGoing k
 goes_on_at o h k body bytes acts e going range laws takes fed limits = goes_on o k body bytes acts (subst IsGoing (sym e) going) range laws (subst (λ (z : HostState). TakesMessage z body) (sym e) takes) fed limits
 
-pub stopped_at : (o h k : HostState) (body bytes before after : List ℕ) (fault closed : AdapterFault) → o ≡ h → closed ≡ fault → StopsAfter shown_live FollowsLive (over_mail (mail_placing o.placed) o.adapter) to_take (frame_of body) [] fault k.adapter bytes
+pub stopped_at : (o h k : HostState) (body bytes before after : List ℕ) (fault closed : AdapterFault) → o ≡ h → closed ≡ fault → StopsAfter shown_live FollowsLive (over_mail (mail_ahead o.ahead) o.adapter) to_take (frame_of body) [] fault k.adapter bytes
     → ((outs : List Message) → bytes ≡ bytes_of outs → after ≡ before ++ message_lines outs) → StopsMessage h body before after k closed
 stopped_at o h k body bytes before after fault closed e f stops hands =
     subst (λ (z : AdapterFault). StopsMessage h body before after k z) (sym f) (subst (λ (z : HostState). StopsMessage z body before after k fault) e (stopped o k body bytes before after fault stops hands))

@@ -9,10 +9,10 @@ ghost use Rattle.dap_live.specs.LiveShown.{shown_live};
 ghost use Rattle.dap_live.specs.MailState.{no_mail, with_coming};
 ghost use Rattle.dap_plan.specs.Polling.{has_debuggee};
 ghost use Rattle.dap_plan.specs.declared.fault.AdapterFault.{AdapterFault};
-ghost use Rattle.dap_host.specs.Fed.{AnswersFed, TellsFed, mail_placing, over_mail};
+ghost use Rattle.dap_host.specs.Fed.{AnswersFed, TellsFed, mail_ahead, over_mail};
 
 use dap_adapter::{Adapter, AdapterFault, tell_polls_first};
-use dap_live::{Coming, Dropped, HostAct, Live, Mail, Placed};
+use dap_live::{Ahead, Coming, Dropped, HostAct, Live, Mail};
 use std::alloc::Global;
 
 /// Puts what comes into the debuggee's mail, in place of all that is there.
@@ -24,12 +24,12 @@ fn put_coming(alloc: Global, adapter: &mut Adapter<Live>, coming: Coming)
     let _ = adapter.exchange(mail);
 }
 
-/// Puts where breakpoints are into the debuggee's mail, in place of all that is there.
-fn put_placed(alloc: Global, adapter: &mut Adapter<Live>, placed: Option<Placed>)
-    ensures { adapter.new ≡ over_mail (mail_placing placed) adapter.old }
+/// Puts what is said of the next message into the debuggee's mail, in place of all that is there.
+fn put_ahead(alloc: Global, adapter: &mut Adapter<Live>, ahead: Ahead)
+    ensures { adapter.new ≡ over_mail (mail_ahead ahead) adapter.old }
 {
     let mut mail = Mail::new(alloc);
-    mail.place(placed);
+    mail.prepare(ahead);
     let _ = adapter.exchange(mail);
 }
 
@@ -55,20 +55,20 @@ fn fetch_dropped(alloc: Global, adapter: &mut Adapter<Live>) -> Option<Dropped>
     mail.take_dropped()
 }
 
-/// Answers a message, which sets breakpoints where they are placed, and fetches the acts that were asked meanwhile.
+/// Answers a message, of which this was said before, and fetches the acts that were asked meanwhile.
 pub(crate) fn answer_fed(
     alloc: Global,
     adapter: &mut Adapter<Live>,
-    placed: Option<Placed>,
+    ahead: Ahead,
     body: &[u8],
     bytes: &mut Vec<u8>,
 ) -> Result<Vec<HostAct>, AdapterFault>
     requires empty { bytes.old.items ≡ [] }
     requires open { adapter.old.fault ≡ None }
-    ensures answers { IfOk result (λ acts. AnswersFed adapter.old placed body.now bytes.new.items acts.items adapter.new) }
-    ensures stops { IfErr result (λ fault. fault ≢ AdapterFault.OutOfMemory → StopsAfter shown_live FollowsLive (over_mail (mail_placing placed) adapter.old) to_take (frame_of body.now) [] fault adapter.new bytes.new.items) }
+    ensures answers { IfOk result (λ acts. AnswersFed adapter.old ahead body.now bytes.new.items acts.items adapter.new) }
+    ensures stops { IfErr result (λ fault. fault ≢ AdapterFault.OutOfMemory → StopsAfter shown_live FollowsLive (over_mail (mail_ahead ahead) adapter.old) to_take (frame_of body.now) [] fault adapter.new bytes.new.items) }
 {
-    put_placed(alloc, adapter, placed);
+    put_ahead(alloc, adapter, ahead);
     match adapter.answer_body(alloc, body, bytes) {
         Ok(_ended) => fetch_acts(alloc, adapter),
         Err(fault) => Err(fault),

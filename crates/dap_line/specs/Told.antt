@@ -10,6 +10,7 @@ use Rattle.dap_debuggee.specs.declared.answers.Happening.TheVariants as happenin
 use Rattle.dap_command.specs.declared.source_key.SourceKey.{SourceKey}
 use Rattle.dap_command.specs.declared.source_key.SourceKey.TheVariants as source
 use Rattle.dap_debuggee.specs.declared.answers.Placement.{Placement}
+use Rattle.dap_debuggee.specs.declared.explanation.Explanation.{Explanation}
 use Rattle.dap_debuggee.specs.declared.answers.Variable.{Variable}
 use Rattle.dap_json.specs.Field.{tree_at}
 use Rattle.dap_json.specs.More.{more_of}
@@ -20,7 +21,7 @@ use Rattle.dap_recording.specs.Pieces.{piece_length}
 use Rattle.dap_recording.specs.Reading.{exit_of}
 use Rattle.dap_line.specs.Written.{host_key_name}
 use Rattle.dap_line.specs.declared.refusal.HostKey.{HostKey}
-use Rattle.dap_line.specs.declared.refusal.HostKey.TheVariants.{Happened, Category, Output, Reason, Thread, Moment, Code, Text, Value, Later, Holder, Variables, Name, Asked, Number, Sources, More, Why, ShowUser, Placed, Path, SourceReference, Breakpoints, Line, Verified, Message as Words}
+use Rattle.dap_line.specs.declared.refusal.HostKey.TheVariants.{Happened, Category, Output, Reason, Thread, Moment, Code, Text, Value, Later, Holder, Variables, Name, Asked, Number, Sources, More, Why, ShowUser, Placed, Refuses, Path, SourceReference, Breakpoints, Line, Verified, Message as Words}
 use Rattle.dap_line.specs.declared.refusal.Refusal.{Refusal}
 use Rattle.dap_line.specs.declared.refusal.Refusal.TheVariants.{NotJson, BadKey}
 use Rattle.dap_line.specs.declared.told.Kind.{Kind}
@@ -29,6 +30,7 @@ use Rattle.dap_line.specs.declared.told.Told.{Told}
 use Rattle.dap_line.specs.declared.told.Told.TheVariants as told
 use Rattle.dap_line.specs.declared.told.Question.{Question}
 use Rattle.dap_line.specs.declared.told.Question.TheVariants as question
+use Rattle.dap_line.specs.declared.told.Note.TheVariants as note
 use Rattle.dap_line.specs.declared.told.Said.{Said}
 use Rattle.dap_line.specs.declared.told.Said.TheVariants as said
 use Rattle.dap_line.specs.declared.told.Unread.{Unread}
@@ -154,13 +156,19 @@ variables_in d t = do
   variables ← variables_of (as_array d)
   Ok (told.Variables holder variables)
 
--- that a text has no value, and why; the client's user need not see it where nothing is said of that
+-- words that say why; the client's user need not see them where nothing is said of that
+unfoldable pub explanation_in : HostKey → Data → Read Explanation
+explanation_in k d = do
+  text ← required_at as_str k d
+  show_user ← optional_or as_bool false ShowUser d
+  Ok (record { text = text; show_user = show_user })
+
+-- that a text has no value, and why
 unfoldable pub no_value_in : Data → Read Told
 no_value_in d = do
   text ← required_at as_str Text d
-  why ← required_at as_str Why d
-  show_user ← optional_or as_bool false ShowUser d
-  Ok (told.NoValue text (record { text = why; show_user = show_user }))
+  why ← explanation_in Why d
+  Ok (told.NoValue text why)
 
 -- why a text has no value counts where it has none
 abbrev pub text_by : Option Data → Option Data → Data → Read Told
@@ -253,9 +261,15 @@ placed_in d = do
   named ← or_bad Placed (value_at Placed d)
   key ← source_in named
   places ← places_of (option_and_then as_array (value_at Breakpoints d))
-  Ok (said.Placed (record { source = key; lines = places.0; placements = places.1 }))
+  Ok (said.OfNext (note.Places (record { source = key; lines = places.0; placements = places.1 })))
 
--- ---- what is said: what happened, where breakpoints are, or a question
+-- ---- what is said: what happened, something of the next message, or a question
+
+-- that what the next message asks for is refused, and why
+unfoldable pub refusal_in : Data → Read Said
+refusal_in d = do
+  why ← explanation_in Refuses d
+  Ok (said.OfNext (note.Refuses why))
 
 abbrev pub question_named : List ℕ → Option Question
 question_named name = if bytes_eq name (codes "target") then Some question.Target else None
@@ -274,14 +288,15 @@ happened_in d = do
   told ← told_in d
   Ok (said.Happened told)
 
--- a question where there is one, else where breakpoints are where that is said, else what happened
-abbrev pub said_by : Option Data → Option Data → Data → Read Said
-said_by None None d = happened_in d
-said_by None (Some placed) d = placed_in d
-said_by (Some asked) placed d = asked_in d
+-- a question where there is one, else where breakpoints are, or that something is refused, where that is said, else what happened
+abbrev pub said_by : Option Data → Option Data → Option Data → Data → Read Said
+said_by None None None d = happened_in d
+said_by None None (Some why) d = refusal_in d
+said_by None (Some source) refuses d = placed_in d
+said_by (Some asked) placed refuses d = asked_in d
 
 abbrev pub said_in : Data → Read Said
-said_in d = said_by (value_at Asked d) (value_at Placed d) d
+said_in d = said_by (value_at Asked d) (value_at Placed d) (value_at Refuses d) d
 
 -- ---- a text
 

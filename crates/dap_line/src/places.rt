@@ -6,7 +6,7 @@ ghost use Rattle.dap_json.specs.Steps.{Returns};
 ghost use Rattle.dap_line.specs.Told.{Gives, SaysKey, value_at, optional_at, optional_or, source_named, source_in as source_of, line_of, place_of, each_place, places_of, placed_in as placed_of};
 
 use crate::refusal::HostKey;
-use crate::told::{Said, Unread, at, beside_in};
+use crate::told::{Note, Said, Unread, at, beside_in};
 use dap_command::SourceKey;
 use dap_debuggee::Placement;
 use dap_json::{List, More, Text, numbers};
@@ -119,9 +119,9 @@ pub(crate) fn placed_in(alloc: Global, said: &Value) -> Result<Said, Unread>
     let named = at(said, HostKey::Placed).found.ok_or(HostKey::Placed)?;
     let source = source_in(alloc, named)?;
     let (lines, placements) = places_in(alloc, said)?;
-    Ok(Said::Placed(Placed {
+    Ok(Said::OfNext(Note::Places(Placed {
         source,
         lines: List::new(lines),
         placements: List::new(placements),
-    }))
+    })))
 }

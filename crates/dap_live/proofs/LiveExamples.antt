@@ -24,7 +24,7 @@ use Rattle.dap_live.specs.declared.mail.Coming.{Coming}
 use Rattle.dap_live.specs.declared.mail.Coming.TheVariants as coming
 use Rattle.dap_live.specs.declared.mail.HostAct.TheVariants as act
 use Rattle.dap_live.specs.Hearing.{with_told}
-use Rattle.dap_live.specs.MailState.{MailState, no_mail, with_coming, with_dropped, with_act, with_end}
+use Rattle.dap_live.specs.MailState.{MailState, nothing_ahead, no_mail, with_coming, with_dropped, with_act, with_end}
 use Rattle.dap_live.specs.LiveLaws.{reply_to, here_after, learned_after, sources_after, mail_after}
 use Rattle.dap_debuggee.specs.declared.answers.Placement.{Placement}
 
@@ -173,13 +173,13 @@ polls = (refl, refl, refl, refl, refl)
 
 -- and leaves why it is dropped; what came is taken, and the acts stay
 abbrev left : Option Dropped → MailState
-left why = record { coming = None; placed = None; acts = act.Start ∷ []; dropped = why }
+left why = record { coming = None; ahead = nothing_ahead; acts = act.Start ∷ []; dropped = why }
 
 reasons : (mail_after to_poll done (at Stopped (Some halt)) ≡ left (Some OutOfTurn)) × (mail_after to_poll done (at Stopped (Some seven)) ≡ left None) × (mail_after to_poll done (at Stopped None) ≡ left None) × (mail_after to_poll done (at Running (Some (coming.Exited (pos 3)))) ≡ left None) × (mail_after to_poll done (at Stopped (Some (coming.Variables 1 []))) ≡ left (Some Told))
 reasons = (refl, refl, refl, refl, refl)
 
 -- what is said comes in place of what was said, and the reason goes with that
-says : with_coming two (with_dropped (Some Told) (with_coming seven no_mail)) ≡ record { coming = Some two; placed = None; acts = []; dropped = None }
+says : with_coming two (with_dropped (Some Told) (with_coming seven no_mail)) ≡ record { coming = Some two; ahead = nothing_ahead; acts = []; dropped = None }
 says = refl
 
 -- acts come in the order in which they were asked; a refused one does not

@@ -36,6 +36,7 @@ use Rattle.dap_live.specs.declared.mail.Dropped.TheVariants.{OutOfTurn, OutOfRan
 use Rattle.dap_live.specs.declared.mail.HostAct.TheVariants as act
 use Rattle.dap_live.specs.MailState.{MailState, with_act, with_end}
 use Rattle.dap_live.specs.Placing.{is_of, placements_or, placements_in}
+use Rattle.dap_live.specs.declared.mail.Ahead.{Ahead}
 use Rattle.dap_live.specs.declared.mail.Placed.{Placed}
 use Rattle.dap_live.specs.Dropping.{why_dropped, why_not_more, why_untold, why_too_wide, why_unheard, unless_dropped}
 use Rattle.dap_live.specs.Hearing.{happening_by, why_not_heard, told_by, learned_by, with_told, here_with, here_by, sources_with, sources_by}
@@ -43,30 +44,35 @@ use Rattle.dap_live.specs.LiveShown.{LiveState, shown_live, now_shown, threads_i
 
 -- ---- what is answered
 
--- it is started where it is not started, goes on where it is stopped, and is asked to stop where it runs
-abbrev pub reply_to_start : State → Reply
-reply_to_start NotStarted = done
-reply_to_start Running = refused None
-reply_to_start Stopped = refused None
-reply_to_start Gone = refused None
+-- done, unless the host refuses
+abbrev pub done_unless : Option Explanation → Reply
+done_unless None = done
+done_unless (Some why) = refused (Some why)
 
-abbrev pub reply_to_resume : State → Reply
-reply_to_resume NotStarted = refused None
-reply_to_resume Running = refused None
-reply_to_resume Stopped = done
-reply_to_resume Gone = refused None
+-- it is started where it is not started, goes on where it is stopped, and is asked to stop where it runs, unless the host refuses
+abbrev pub reply_to_start : Option Explanation → State → Reply
+reply_to_start refusal NotStarted = done_unless refusal
+reply_to_start refusal Running = refused None
+reply_to_start refusal Stopped = refused None
+reply_to_start refusal Gone = refused None
 
-abbrev pub reply_to_pause : State → Reply
-reply_to_pause NotStarted = refused None
-reply_to_pause Running = done
-reply_to_pause Stopped = refused None
-reply_to_pause Gone = refused None
+abbrev pub reply_to_resume : Option Explanation → State → Reply
+reply_to_resume refusal NotStarted = refused None
+reply_to_resume refusal Running = refused None
+reply_to_resume refusal Stopped = done_unless refusal
+reply_to_resume refusal Gone = refused None
+
+abbrev pub reply_to_pause : Option Explanation → State → Reply
+reply_to_pause refusal NotStarted = refused None
+reply_to_pause refusal Running = done_unless refusal
+reply_to_pause refusal Stopped = refused None
+reply_to_pause refusal Gone = refused None
 
 -- a poll gives just what the host said last, or nothing
 abbrev pub reply_to : Act → LiveState → Reply
-reply_to to_start v = reply_to_start v.state
-reply_to (to_resume how thread) v = reply_to_resume v.state
-reply_to to_pause v = reply_to_pause v.state
+reply_to to_start v = reply_to_start v.mail.ahead.refusal v.state
+reply_to (to_resume how thread) v = reply_to_resume v.mail.ahead.refusal v.state
+reply_to to_pause v = reply_to_pause v.mail.ahead.refusal v.state
 reply_to to_poll v = happened (told_by v.mail.coming v)
 reply_to (to_set_breakpoints source lines) v = done
 reply_to (to_assign holder name text) v = done
@@ -285,23 +291,26 @@ may_tell : (o : Option Coming) (v : LiveState) → IsTrue (may_happen v.state (t
 may_tell None v = may_nothing v.state
 may_tell (Some c) v = may_tell_of c v
 
-may_start : (s : State) → IsTrue (may_answer s to_start (reply_to_start s))
-may_start NotStarted = refl
-may_start Running = refl
-may_start Stopped = refl
-may_start Gone = refl
+may_start : (refusal : Option Explanation) (s : State) → IsTrue (may_answer s to_start (reply_to_start refusal s))
+may_start None NotStarted = refl
+may_start (Some why) NotStarted = refl
+may_start refusal Running = refl
+may_start refusal Stopped = refl
+may_start refusal Gone = refl
 
-may_resume : (s : State) (how : How) (thread : ℤ) → IsTrue (may_answer s (to_resume how thread) (reply_to_resume s))
-may_resume NotStarted how thread = refl
-may_resume Running how thread = refl
-may_resume Stopped how thread = refl
-may_resume Gone how thread = refl
+may_resume : (refusal : Option Explanation) (s : State) (how : How) (thread : ℤ) → IsTrue (may_answer s (to_resume how thread) (reply_to_resume refusal s))
+may_resume refusal NotStarted how thread = refl
+may_resume refusal Running how thread = refl
+may_resume None Stopped how thread = refl
+may_resume (Some why) Stopped how thread = refl
+may_resume refusal Gone how thread = refl
 
-may_pause : (s : State) → IsTrue (may_answer s to_pause (reply_to_pause s))
-may_pause NotStarted = refl
-may_pause Running = refl
-may_pause Stopped = refl
-may_pause Gone = refl
+may_pause : (refusal : Option Explanation) (s : State) → IsTrue (may_answer s to_pause (reply_to_pause refusal s))
+may_pause refusal NotStarted = refl
+may_pause None Running = refl
+may_pause (Some why) Running = refl
+may_pause refusal Stopped = refl
+may_pause refusal Gone = refl
 
 may_poll : (s : State) (h : Happening) → IsTrue (may_happen s h) → IsTrue (may_answer s to_poll (happened h))
 may_poll NotStarted h may = may
@@ -328,9 +337,9 @@ may_end Stopped = refl
 may_end Gone = refl
 
 may_reply : (a : Act) (v : LiveState) → IsTrue (may_answer v.state a (reply_to a v))
-may_reply to_start v = may_start v.state
-may_reply (to_resume how thread) v = may_resume v.state how thread
-may_reply to_pause v = may_pause v.state
+may_reply to_start v = may_start v.mail.ahead.refusal v.state
+may_reply (to_resume how thread) v = may_resume v.mail.ahead.refusal v.state how thread
+may_reply to_pause v = may_pause v.mail.ahead.refusal v.state
 may_reply to_poll v = may_poll v.state (told_by v.mail.coming v) (may_tell v.mail.coming v)
 may_reply (to_set_breakpoints source lines) v = may_set v.state source lines
 may_reply (to_assign holder name text) v = may_assign v.state holder name text
@@ -506,26 +515,26 @@ sources_stay_by v w to_end are = list_stays v w are
 pub keeps_sources-live : KeepsSources shown_live FollowsLive
 keeps_sources-live v w a r f = sources_stay_by v w a (ap (λ (u : LiveState). u.sources) f.view)
 
--- no act takes away where the host said that breakpoints are
-placed_stays : (a : Act) (r : Reply) (v : LiveState) → (mail_after a r v).placed ≡ v.mail.placed
-placed_stays to_start done v = refl
-placed_stays to_start (refused why) v = refl
-placed_stays to_start (happened h) v = refl
-placed_stays (to_resume how thread) done v = refl
-placed_stays (to_resume how thread) (refused why) v = refl
-placed_stays (to_resume how thread) (happened h) v = refl
-placed_stays to_pause done v = refl
-placed_stays to_pause (refused why) v = refl
-placed_stays to_pause (happened h) v = refl
-placed_stays to_poll r v = refl
-placed_stays (to_set_breakpoints source lines) r v = refl
-placed_stays (to_assign holder name text) r v = refl
-placed_stays to_end r v = refl
+-- no act takes away what the host said of the next message
+ahead_stays : (a : Act) (r : Reply) (v : LiveState) → (mail_after a r v).ahead ≡ v.mail.ahead
+ahead_stays to_start done v = refl
+ahead_stays to_start (refused why) v = refl
+ahead_stays to_start (happened h) v = refl
+ahead_stays (to_resume how thread) done v = refl
+ahead_stays (to_resume how thread) (refused why) v = refl
+ahead_stays (to_resume how thread) (happened h) v = refl
+ahead_stays to_pause done v = refl
+ahead_stays to_pause (refused why) v = refl
+ahead_stays to_pause (happened h) v = refl
+ahead_stays to_poll r v = refl
+ahead_stays (to_set_breakpoints source lines) r v = refl
+ahead_stays (to_assign holder name text) r v = refl
+ahead_stays to_end r v = refl
 
 same_places : (v w : LiveState) (a : Act) (r : Reply) → FollowsLive v a r w → w.sources ≡ v.sources → (source : SourceKey) (lines : List ℕ) → (shown_live w).verify source lines ≡ (shown_live v).verify source lines
 same_places v w a r f same source lines =
-    let placed : w.mail.placed ≡ v.mail.placed = ap (λ (u : LiveState). u.mail.placed) f.view ∙ placed_stays a r v in
-    ap (λ xs. Some (placements_in w.mail.placed xs source lines)) same ∙ ap (λ p. Some (placements_in p v.sources source lines)) placed
+    let ahead : w.mail.ahead ≡ v.mail.ahead = ap (λ (u : LiveState). u.mail.ahead) f.view ∙ ahead_stays a r v in
+    ap (λ xs. Some (placements_in w.mail.ahead.placed xs source lines)) same ∙ ap (λ (a : Ahead). Some (placements_in a.placed v.sources source lines)) ahead
 
 pub keeps_answers-live : KeepsAnswers shown_live FollowsLive
 keeps_answers-live v w a r f k =
@@ -555,7 +564,7 @@ each-placed None sources source lines = each-verified sources source lines
 each-placed (Some p) sources source lines = each_of (is_of source lines p) p source lines (lines_verified sources source lines) refl (each-verified sources source lines)
 
 pub verifies_each-live : VerifiesEach shown_live
-verifies_each-live v source lines answers is = sym (ap (λ o. length (unwrap_or o [])) is) ∙ each-placed v.mail.placed v.sources source lines
+verifies_each-live v source lines answers is = sym (ap (λ o. length (unwrap_or o [])) is) ∙ each-placed v.mail.ahead.placed v.sources source lines
 
 there_by : (value : Option (List ℕ)) (more : Option (List Member)) (name : List ℕ) (o : Option (List Variable)) → IsSome (option_and_then (λ text. assigned_of name text more o) value) → IsSome (option_and_then (variable_named name) o)
 there_by None more name o h = absurd (cc h)

@@ -132,6 +132,6 @@ shown_live v = record {
   assigned = λ holder name text. assigned_by (told_of v.learned text) name (children_in (now_shown v.state v.here) holder);
   sources = map source_shown v.sources;
   content = text_at v.sources;
-  verify = λ source lines. Some (placements_in v.mail.placed v.sources source lines);
+  verify = λ source lines. Some (placements_in v.mail.ahead.placed v.sources source lines);
   why = why_in v.learned;
 }

@@ -15,4 +15,4 @@ mod placing;
 
 pub use dropping::{each_drop_has_its_reason, why_dropped};
 pub use held::Live;
-pub use mail::{Coming, Dropped, HostAct, Mail, Placed};
+pub use mail::{Ahead, Coming, Dropped, HostAct, Mail, Placed};
