@@ -22,7 +22,7 @@ pub(crate) const NAME: &str = "sample.toy";
 pub(crate) const PATH: &str = "/toy/sample.toy";
 
 /// Why a text that is no variable of a frame has no value.
-pub(crate) const NO_VARIABLE: &str = "No variable of that name is in this frame.";
+pub(crate) const NO_VARIABLE: &str = "There is no variable of that name.";
 
 /// The source.
 pub(crate) const TEXT: &str = "set a 2
