@@ -9,7 +9,7 @@ use Rattle.dap_command.specs.SameSource.{is_source}
 use Rattle.dap_debuggee.specs.declared.answers.State.TheVariants.{NotStarted, Running, Stopped, Gone}
 use Rattle.dap_debuggee.specs.declared.answers.How.TheVariants.{Next, Continue}
 use Rattle.dap_debuggee.specs.declared.answers.Asked.TheVariants as remembers
-use Rattle.dap_debuggee.specs.declared.answers.Category.TheVariants.{Console, Stdout, Stderr}
+use Rattle.dap_debuggee.specs.declared.answers.Category.TheVariants.{Console, Stdout, Stderr, Other}
 use Rattle.dap_debuggee.specs.declared.answers.Frame.{Frame}
 use Rattle.dap_debuggee.specs.declared.answers.Happening.TheVariants.{Nothing, Output, Stopped as StoppedBy, Continued, Exited}
 use Rattle.dap_debuggee.specs.declared.answers.Variable.{Variable}
@@ -129,6 +129,9 @@ of_one_holder = (refl, refl, refl)
 
 codes_of_an_exit : (is_code (pos 2147483647) ≡ true) × (is_code (pos 2147483648) ≡ false) × (is_code (negsuc 2147483647) ≡ true) × (is_code (negsuc 2147483648) ≡ false)
 codes_of_an_exit = (refl, refl, refl, refl)
+
+names : (is_short (Output (Other (codes "gdb")) [] []) ≡ true) × (is_short (Output (Other (replicate 64 97)) [] []) ≡ true) × (is_short (Output (Other (replicate 65 97)) [] []) ≡ false) × (is_short (Output (Other (codes "a\"b")) [] []) ≡ false) × (is_short (Output (Other (10 ∷ [])) [] []) ≡ false) × (category_name (Other (codes "gdb")) ≡ codes "gdb")
+names = (refl, refl, refl, refl, refl, refl)
 
 lengths : (is_short (Output Stderr (replicate 128 97) []) ≡ true) × (is_short (Output Stderr (replicate 129 97) []) ≡ false) × (is_short (StoppedBy (replicate 64 97) (pos 1) []) ≡ true) × (is_short (StoppedBy (replicate 65 97) (pos 1) []) ≡ false)
 lengths = (refl, refl, refl, refl)

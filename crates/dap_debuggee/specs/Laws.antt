@@ -3,10 +3,11 @@
 use Rattle.std.specs.Prelude.{◌≡◌, ℕ, ◌+◌, ◌%◌, ◌^◌, ◌≤◌, ℤ, pos, negsuc, int_le, Bool, true, false, ◌&&◌, nat_le, nat_lt, nat_eq, bytes_eq, List, [], ◌∷◌, length, Option, Some, None, IsTrue, if◌then◌else◌, option_map, option_and_then, Result, Ok, Err}
 use Rattle.std.specs.List.{list_all, slice_get, find}
 use Rattle.std.specs.Option.{IsSome}
+use Rattle.dap_json.specs.Names.{is_name}
 use Rattle.dap_command.specs.SameSource.{is_source}
 use Rattle.dap_command.specs.Numbers.{is_int}
 use Rattle.dap_command.specs.declared.source_key.SourceKey.{SourceKey}
-use Rattle.dap_debuggee.specs.Shown.{Shown, Act, Reply, asked_of_act, without_reason}
+use Rattle.dap_debuggee.specs.Shown.{Shown, Act, Reply, asked_of_act, without_reason, category_name}
 use Rattle.dap_debuggee.specs.Shown.{to_start, to_resume, to_pause, to_poll, to_set_breakpoints, to_assign, to_end, done, refused, happened}
 use Rattle.dap_debuggee.specs.declared.answers.State.{State}
 use Rattle.dap_debuggee.specs.declared.answers.State.TheVariants.{NotStarted, Running, Stopped, Gone}
@@ -176,7 +177,7 @@ is_code z = int_le (negsuc 2147483647) z && int_le z (pos 2147483647)
 
 abbrev pub is_short : Happening → Bool
 is_short happening.Nothing = true
-is_short (happening.Output category text more) = nat_le (length text) 128
+is_short (happening.Output category text more) = is_name (category_name category) && nat_le (length text) 128
 is_short (happening.Stopped reason thread more) = nat_le (length reason) 64 && is_int thread
 is_short (happening.Continued thread) = is_int thread
 is_short (happening.Exited code) = is_code code

@@ -6,7 +6,7 @@ use Rattle.dap_debuggee.specs.declared.answers.How.{How}
 use Rattle.dap_debuggee.specs.declared.answers.Asked.{Asked}
 use Rattle.dap_debuggee.specs.declared.answers.Asked.TheVariants.{Start, Resume, Pause, Poll, SetBreakpoints, Assign, End}
 use Rattle.dap_debuggee.specs.declared.answers.Category.{Category}
-use Rattle.dap_debuggee.specs.declared.answers.Category.TheVariants.{Console, Important, Stdout, Stderr, Telemetry}
+use Rattle.dap_debuggee.specs.declared.answers.Category.TheVariants.{Console, Important, Stdout, Stderr, Telemetry, Other}
 use Rattle.dap_debuggee.specs.declared.answers.Happening.{Happening}
 use Rattle.dap_debuggee.specs.declared.answers.Thread.{Thread}
 use Rattle.dap_debuggee.specs.declared.answers.Frame.{Frame}
@@ -26,6 +26,7 @@ category_name Important = codes "important"
 category_name Stdout = codes "stdout"
 category_name Stderr = codes "stderr"
 category_name Telemetry = codes "telemetry"
+category_name (Other name) = name
 
 -- what a debuggee is asked to do
 pub data Act : Type 0 where

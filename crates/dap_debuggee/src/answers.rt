@@ -44,7 +44,7 @@ pub enum Asked {
 }
 
 /// Where output belongs: Specification, "OutputEvent".
-#[derive(Clone, Copy, Debug, PartialEq, Eq)]
+#[derive(Debug, Drop)]
 pub enum Category {
     Console,
     /// What a client shows where it can't be overlooked.
@@ -53,6 +53,9 @@ pub enum Category {
     Stderr,
     /// What a client hands on to who gathers such, and shows nobody.
     Telemetry,
+    /// A category of the debuggee's own: a name, as `dap_json::names::is_name` has it. A client that does not know it takes it
+    /// for the console's.
+    Other(Text),
 }
 
 /// What a poll gives.
@@ -226,8 +229,8 @@ impl Category {
     ghost use Rattle.dap_debuggee.specs.Shown.{category_name};
 
     /// Its name in the protocol.
-    pub fn name(self) -> &'static str
-        ensures { result.now ≡ category_name self }
+    pub fn name(&self) -> &str
+        ensures { result.now ≡ category_name self.now }
     {
         match self {
             Category::Console => "console",
@@ -235,6 +238,22 @@ impl Category {
             Category::Stdout => "stdout",
             Category::Stderr => "stderr",
             Category::Telemetry => "telemetry",
+            Category::Other(name) => name.as_str(),
+        }
+    }
+}
+
+impl Clone for Category {
+    ghost is_clone = { λ a b. b ≡ a };
+
+    fn clone(&self) -> Result<Category, AllocError> {
+        match self {
+            Category::Console => Ok(Category::Console),
+            Category::Important => Ok(Category::Important),
+            Category::Stdout => Ok(Category::Stdout),
+            Category::Stderr => Ok(Category::Stderr),
+            Category::Telemetry => Ok(Category::Telemetry),
+            Category::Other(name) => Ok(Category::Other(name.clone()?)),
         }
     }
 }

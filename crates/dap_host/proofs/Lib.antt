@@ -2,6 +2,7 @@ mod FedLemmas
 mod FoundLemmas
 mod GoingLemmas
 mod PartLemmas
+mod PartsExamples
 mod LineLemmas
 mod FetchLemmas
 mod HostingLemmas

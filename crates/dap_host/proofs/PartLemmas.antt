@@ -1,7 +1,8 @@
 -- Parts of what happened, told one after the other.
-use Rattle.std.proofs.Common.{◌≡◌, ℕ, ◌<◌, ◌≤◌, ◌&&◌, nat_le, List, [], ◌∷◌, ◌++◌, length, map, take, drop, Bool, true, Option, Some, None, Result, Ok, Err, refl, sym, ap, ◌∙◌, subst, append-nil, append_assoc, arith}
+use Rattle.std.proofs.Common.{◌≡◌, ◌≢◌, ℕ, ◌<◌, ◌≤◌, ◌&&◌, nat_le, List, [], ◌∷◌, ◌++◌, length, map, take, drop, Bool, true, Option, Some, None, Result, Ok, Err, refl, sym, ap, ◌∙◌, subst, append-nil, append_assoc, arith}
 use Rattle.std.specs.Prelude.{IfOk, IfErr, OnOk}
 use Rattle.std.specs.List.{list_all}
+use Rattle.std.proofs.lemmas.Bool.{and_parts, and_from}
 use Rattle.dap_debuggee.specs.declared.answers.Category.{Category}
 use Rattle.dap_json.specs.declared.more.Member.{Member}
 use Rattle.dap_adapter.specs.AdapterState.{AdapterState}
@@ -14,10 +15,11 @@ use Rattle.dap_live.specs.declared.mail.Dropped.{Dropped as Drop}
 use Rattle.dap_plan.specs.Polling.{after_happening, has_debuggee}
 use Rattle.dap_plan.specs.Session.{Session}
 use Rattle.dap_plan.specs.declared.fault.AdapterFault.{AdapterFault}
-use Rattle.dap_recording.specs.Pieces.{piece_length, pieces}
-use Rattle.dap_recording.proofs.PieceLemmas.{next_piece}
+use Rattle.dap_plan.specs.declared.fault.AdapterFault.TheVariants.{OutOfMemory}
+use Rattle.dap_recording.specs.Pieces.{piece_length, pieces, PiecesAreTheOutput}
+use Rattle.dap_recording.proofs.PieceLemmas.{next_piece, left_shorter}
 use Rattle.dap_host.specs.Hearing.{HostState, SameButAdapter, TellsIt, TellsInTurn, none_told, one_more, TellsUntil, all_told, until, StopsTelling, StopsWithin}
-use Rattle.dap_host.specs.Parts.{texts_told, outputs, outputs_alone}
+use Rattle.dap_host.specs.Parts.{texts_told, outputs, outputs_alone, OutputIsToldWhole}
 
 -- ---- a session in which output was told
 
@@ -138,3 +140,69 @@ pub none_left : (old : HostState) (category : Category) (text before left after 
 none_left old category text before left after there none p =
     let all : outputs_alone category (pieces (text ∷ [])) ≡ p.told = p.whole ∙ ap (λ (t : List ℕ). p.told ++ outputs_alone category (pieces (t ∷ []))) none ∙ append-nil p.told in
     all_told (subst (λ (cs : List Coming). TellsInTurn old before cs after there) (sym all) p.in_turn)
+
+-- ---- what the calls give
+
+-- the first piece, and what is made of the rest
+module _ (old : HostState) (category : Category) (more : List Member) (text piece rest before middle : List ℕ) (n : ℕ) (there : HostState) (length_is : n ≡ piece_length text) (front : piece ≡ take n text) (back : rest ≡ drop n text) where
+  parts : outputs category more (texts_told text) ≡ Output category piece more ∷ outputs_alone category (pieces (rest ∷ []))
+  parts = outputs_are category more text piece rest (front ∙ ap (λ (k : ℕ). take k text) length_is) (back ∙ ap (λ (k : ℕ). drop k text) length_is)
+
+  first_none : (dropped : Option Drop) → dropped ≡ None → TellsIt old (Output category piece more) dropped before middle there → TellsIt old (Output category piece more) None before middle there
+  first_none dropped none it = subst (λ (d : Option Drop). TellsIt old (Output category piece more) d before middle there) none it
+
+  pub then_until : (dropped : Option Drop) → dropped ≡ None → TellsIt old (Output category piece more) dropped before middle there → (new : HostState) (after : List ℕ) (r : Result (Option Drop) AdapterFault)
+      → IfOk r (TellsUntil there (outputs_alone category (pieces (rest ∷ []))) middle after new) → IfOk r (TellsUntil old (outputs category more (texts_told text)) before after new)
+  then_until dropped none it new after (Ok d) until_there =
+      subst (λ (cs : List Coming). TellsUntil old cs before after new d) (sym parts) (until_behind old there new (Output category piece more) (outputs_alone category (pieces (rest ∷ []))) before middle after d (first_none dropped none it) until_there)
+  then_until dropped none it new after (Err e) nothing = tt
+
+  pub then_stops : (dropped : Option Drop) → dropped ≡ None → TellsIt old (Output category piece more) dropped before middle there → (new : HostState) (after : List ℕ) (r : Result (Option Drop) AdapterFault)
+      → IfErr r (λ fault. fault ≢ OutOfMemory → StopsWithin there (outputs_alone category (pieces (rest ∷ []))) middle after new fault) → IfErr r (λ fault. fault ≢ OutOfMemory → StopsWithin old (outputs category more (texts_told text)) before after new fault)
+  then_stops dropped none it new after (Ok d) nothing = tt
+  then_stops dropped none it new after (Err e) stops = λ some.
+      subst (λ (cs : List Coming). StopsWithin old cs before after new e) (sym parts) (stops_behind old there new (Output category piece more) (outputs_alone category (pieces (rest ∷ []))) before middle after e (first_none dropped none it) (stops some))
+
+  pub at_first : (dropped : Option Drop) (why : Drop) → dropped ≡ Some why → TellsIt old (Output category piece more) dropped before middle there → TellsUntil old (outputs category more (texts_told text)) before middle there (Some why)
+  at_first dropped why is it =
+      subst (λ (cs : List Coming). TellsUntil old cs before middle there (Some why)) (sym parts)
+      (one_by old there (Output category piece more) (outputs_alone category (pieces (rest ∷ []))) before middle why (subst (λ (d : Option Drop). TellsIt old (Output category piece more) d before middle there) is it))
+
+  pub stops_at_first : (fault : AdapterFault) → StopsTelling old (Output category piece more) before middle there fault → StopsWithin old (outputs category more (texts_told text)) before middle there fault
+  stops_at_first fault stops =
+      subst (λ (cs : List Coming). StopsWithin old cs before middle there fault) (sym parts) (stops_first old there (Output category piece more) (outputs_alone category (pieces (rest ∷ []))) before middle fault stops)
+
+-- a further piece
+module _ (old : HostState) (category : Category) (text before left middle : List ℕ) (there : HostState) (part_way : PartWay old category text before left middle there) (some : 0 < length left) (piece rest : List ℕ)
+    (n : ℕ) (length_is : n ≡ piece_length left) (front : piece ≡ take n left) (back : rest ≡ drop n left) (new : HostState) (after : List ℕ) where
+  first_is : piece ≡ take (piece_length left) left
+  first_is = front ∙ ap (λ (k : ℕ). take k left) length_is
+
+  behind_is : rest ≡ drop (piece_length left) left
+  behind_is = back ∙ ap (λ (k : ℕ). drop k left) length_is
+
+  pub goes_on_part_way : (dropped : Option Drop) → dropped ≡ None → TellsIt there (Output category piece []) dropped middle after new → PartWay old category text before rest after new
+  goes_on_part_way dropped none it = told_on old category text before left middle there part_way some piece rest first_is behind_is new after (subst (λ (d : Option Drop). TellsIt there (Output category piece []) d middle after new) none it)
+
+  pub until_part_way : (dropped : Option Drop) (why : Drop) → dropped ≡ Some why → TellsIt there (Output category piece []) dropped middle after new → TellsUntil old (outputs_alone category (pieces (text ∷ []))) before after new (Some why)
+  until_part_way dropped why is it = dropped_there old category text before left middle there part_way some piece rest first_is behind_is new after why (subst (λ (d : Option Drop). TellsIt there (Output category piece []) d middle after new) is it)
+
+  pub stops_part_way : (fault : AdapterFault) → StopsTelling there (Output category piece []) middle after new fault → StopsWithin old (outputs_alone category (pieces (text ∷ []))) before after new fault
+  stops_part_way fault stops = stops_there old category text before left middle there part_way some piece rest first_is behind_is new after fault stops
+
+  pub shorter : length rest < length left
+  shorter = subst (λ (xs : List ℕ). length xs < length left) (sym behind_is) (left_shorter left some)
+
+-- ---- the whole of it
+
+short : (texts : List (List ℕ)) → list_all (λ piece. nat_le 1 (length piece) && nat_le (length piece) 128) texts ≡ true → list_all (λ piece. nat_le (length piece) 128) texts ≡ true
+short [] is = refl
+short (text ∷ texts) is =
+    let all = and_parts (nat_le 1 (length text) && nat_le (length text) 128) (list_all (λ piece. nat_le 1 (length piece) && nat_le (length piece) 128) texts) is in
+    and_from (nat_le (length text) 128) (list_all (λ piece. nat_le (length piece) 128) texts) (and_parts (nat_le 1 (length text)) (nat_le (length text) 128) all.0).1 (short texts all.1)
+
+pub told_whole : PiecesAreTheOutput → OutputIsToldWhole
+told_whole laws [] = (refl, refl)
+told_whole laws (c ∷ cs) =
+    let both = laws ((c ∷ cs) ∷ []) in
+    (both.0 ∙ append-nil (c ∷ cs), short (pieces ((c ∷ cs) ∷ [])) both.1)

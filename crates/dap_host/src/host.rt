@@ -539,10 +539,11 @@ impl Host {
         ensures stops { IfErr result (λ fault. fault ≢ AdapterFault.OutOfMemory → StopsWithin self.old (outputs category.now more (texts_told text.now)) out.old.items out.new.items self.new fault) }
     {
         let (piece, rest) = text.split_at(piece_length(text));
-        if let Some(why) = self.tell_piece(alloc, category, piece, more, out)? {
-            return Ok(Some(why));
+        match self.tell_piece(alloc, category, piece, more, out) {
+            Ok(None) => self.tell_rest(alloc, category, rest, out),
+            Ok(Some(why)) => Ok(Some(why)),
+            Err(fault) => Err(fault),
         }
-        self.tell_rest(alloc, category, rest, out)
     }
 
     /// Lets the adapter tell the pieces of output behind the first.
@@ -562,8 +563,10 @@ impl Host {
         let mut left = text;
         while !left.is_empty() {
             let (piece, rest) = left.split_at(piece_length(left));
-            if let Some(why) = self.tell_piece(alloc, category, piece, More::none(), out)? {
-                return Ok(Some(why));
+            match self.tell_piece(alloc, category, piece, More::none(), out) {
+                Ok(None) => {}
+                Ok(Some(why)) => return Ok(Some(why)),
+                Err(fault) => return Err(fault),
             }
             left = rest;
         }
@@ -589,8 +592,11 @@ impl Host {
         let Ok(text) = Text::copied(alloc, piece) else {
             return Err(AdapterFault::OutOfMemory);
         };
+        let Ok(category) = category.clone() else {
+            return Err(AdapterFault::OutOfMemory);
+        };
         let coming = Coming::Output {
-            category: *category,
+            category,
             text,
             more,
         };

@@ -4,7 +4,7 @@ use Rattle.serde_json.specs.Data.{Data, Items, no_items, item}
 use Rattle.serde_json.specs.Find.{as_str, as_bool, as_array}
 use Rattle.dap_json.specs.Numbers.{int_of, number_of}
 use Rattle.dap_debuggee.specs.declared.answers.Category.{Category as Place}
-use Rattle.dap_debuggee.specs.declared.answers.Category.TheVariants.{Console, Important, Stdout, Stderr, Telemetry}
+use Rattle.dap_debuggee.specs.declared.answers.Category.TheVariants.{Console, Important, Stdout, Stderr, Telemetry, Other}
 use Rattle.dap_debuggee.specs.declared.answers.Happening.{Happening}
 use Rattle.dap_debuggee.specs.declared.answers.Happening.TheVariants as happening
 use Rattle.dap_command.specs.declared.source_key.SourceKey.{SourceKey}
@@ -83,16 +83,23 @@ gathered of put (item d ds) before = do
 
 -- ---- values
 
-abbrev pub category_named : List ℕ → Option Place
+abbrev pub category_named : List ℕ → Place
 category_named name =
-    if bytes_eq name (codes "console") then Some Console else
-    (if bytes_eq name (codes "important") then Some Important else
-    (if bytes_eq name (codes "stdout") then Some Stdout else
-    (if bytes_eq name (codes "stderr") then Some Stderr else
-    (if bytes_eq name (codes "telemetry") then Some Telemetry else None))))
+    if bytes_eq name (codes "console") then Console else
+    (if bytes_eq name (codes "important") then Important else
+    (if bytes_eq name (codes "stdout") then Stdout else
+    (if bytes_eq name (codes "stderr") then Stderr else
+    (if bytes_eq name (codes "telemetry") then Telemetry else Other name))))
 
-abbrev pub category_of : Data → Option Place
-category_of d = option_and_then category_named (as_str d)
+-- output goes to the console where nothing is said
+abbrev pub category_of : Option (List ℕ) → Place
+category_of None = Console
+category_of (Some name) = category_named name
+
+unfoldable pub category_in : Data → Read Place
+category_in d = do
+  name ← optional_at as_str Category d
+  Ok (category_of name)
 
 -- ---- variables
 
@@ -113,10 +120,9 @@ variables_of (Some ds) = each_variable ds []
 
 -- ---- what is told, by its kind
 
--- output goes to the console where nothing is said
 unfoldable pub output_in : Data → Read Told
 output_in d = do
-  category ← optional_or category_of Console Category d
+  category ← category_in d
   text ← required_at as_str Output d
   said ← optional_at more_of More d
   Ok (told.Output category text (unwrap_or said []))

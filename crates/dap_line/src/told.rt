@@ -6,7 +6,7 @@ ghost use Rattle.dap_json.specs.Lent.{lent_data};
 ghost use Rattle.dap_json.specs.More.{more_of};
 ghost use Rattle.dap_json.specs.Numbers.{number_of};
 ghost use Rattle.dap_recording.specs.Pieces.{piece_length};
-ghost use Rattle.dap_line.specs.Told.{Gives, GivesList, Tells, value_at, required_at, optional_at, optional_or, category_of, category_named as category_of_name, variable_of, each_variable, variables_of as variables_of_items, variables_in as variables_told, learned_by as learned_of_key, loaded_in as loaded_of};
+ghost use Rattle.dap_line.specs.Told.{Gives, GivesList, Tells, value_at, required_at, optional_at, category_in as category_in_data, category_named as category_of_name, variable_of, each_variable, variables_of as variables_of_items, variables_in as variables_told, learned_by as learned_of_key, loaded_in as loaded_of};
 ghost use Rattle.dap_line.specs.Told.{output_in as output_of, stop_in as stop_of, continued_in as continued_of, exit_in as exit_of, learned_in as learned_of, no_value_in as no_value_of, text_by as text_of_keys, kind_named as kind_of_name, kind_of, told_in as told_of, happening_of, question_named as question_of_name, question_of, asked_in as asked_of, happened_in as happened_of, explanation_in as explanation_of, refusal_in as refusal_of, said_in as said_of};
 ghost use Rattle.std.specs.Option.{is_some};
 
@@ -134,28 +134,28 @@ fn text_at(alloc: Global, told: &Value, key: HostKey) -> Result<Text, Unread>
     Ok(Text::copied(alloc, at(told, key).required_text()?)?)
 }
 
-fn category_named(name: &str) -> Option<Category>
-    ensures { result ≡ category_of_name name.now }
+fn category_named(alloc: Global, name: &str) -> Result<Category, AllocError>
+    ensures { IfOk result (λ category. category ≡ category_of_name name.now) }
 {
     match name {
-        "console" => Some(Category::Console),
-        "important" => Some(Category::Important),
-        "stdout" => Some(Category::Stdout),
-        "stderr" => Some(Category::Stderr),
-        "telemetry" => Some(Category::Telemetry),
-        _ => None,
+        "console" => Ok(Category::Console),
+        "important" => Ok(Category::Important),
+        "stdout" => Ok(Category::Stdout),
+        "stderr" => Ok(Category::Stderr),
+        "telemetry" => Ok(Category::Telemetry),
+        _ => Ok(Category::Other(Text::copied(alloc, name)?)),
     }
 }
 
 /// Where output belongs: to the console where nothing is said.
-fn category_in(told: &Value) -> Result<Category, Unread>
-    ensures { Gives result (optional_or category_of Category.Console HostKey.Category (view told.now)) }
+#[tactic(auto, unfolding(crate::specs::Told::category_in))]
+fn category_in(alloc: Global, told: &Value) -> Result<Category, Unread>
+    ensures { Gives result (category_in_data (view told.now)) }
 {
-    let Some(value) = at(told, HostKey::Category).found else {
-        return Ok(Category::Console);
-    };
-    let category = value.as_str().and_then(category_named);
-    Ok(category.ok_or(HostKey::Category)?)
+    match at(told, HostKey::Category).optional_text()? {
+        None => Ok(Category::Console),
+        Some(name) => Ok(category_named(alloc, name)?),
+    }
 }
 
 /// The value of what is learned, where it has one.
@@ -231,7 +231,7 @@ fn variables_of(alloc: Global, value: &Value) -> Result<List<Variable>, Unread>
 fn output_in(alloc: Global, told: &Value) -> Result<Told, Unread>
     ensures { Gives result (output_of (view told.now)) }
 {
-    let category = category_in(told)?;
+    let category = category_in(alloc, told)?;
     let text = text_at(alloc, told, HostKey::Output)?;
     let said = beside_in(alloc, told)?;
     let more = said?.unwrap_or(More::none());
@@ -506,7 +506,7 @@ pub fn happening_in(alloc: Global, told: &Told) -> Result<Happening, AllocError>
             text,
             more,
         } => Ok(Happening::Output {
-            category: *category,
+            category: category.clone()?,
             text: first_piece(alloc, text.as_str())?,
             more: more.clone()?,
         }),

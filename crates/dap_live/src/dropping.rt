@@ -6,6 +6,7 @@ ghost use Rattle.dap_live.specs.Dropping.{why_dropped, EachDropHasItsReason};
 
 use crate::mail::Dropped;
 use dap_debuggee::{Happening, State};
+use dap_json::names::is_name;
 
 const MAX_ID: i64 = 9007199254740991;
 
@@ -21,7 +22,7 @@ fn fits(happening: &Happening) -> bool
 {
     match happening {
         Happening::Nothing => true,
-        Happening::Output { text, .. } => text.len() <= 128,
+        Happening::Output { category, text, .. } => is_name(category.name()) && text.len() <= 128,
         Happening::Stopped { reason, thread, .. } => reason.len() <= 64 && is_id(*thread),
         Happening::Continued { thread } => is_id(*thread),
         Happening::Exited { code } => {

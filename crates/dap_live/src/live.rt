@@ -30,7 +30,7 @@ fn copied(happening: &Happening) -> Result<Happening, AllocError>
             text,
             more,
         } => Ok(Happening::Output {
-            category: *category,
+            category: category.clone()?,
             text: text.clone()?,
             more: more.clone()?,
         }),

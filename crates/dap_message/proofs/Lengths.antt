@@ -27,7 +27,7 @@ use Rattle.dap_message.specs.MessageParts.{failure_response, success_response, e
 use Rattle.dap_message.specs.Lengths.{is_exit_code, IsWithin, FailuresAreShort, FixedResponsesAreShort, EventsAreShort, WhatIsAroundIsShort, TheUsualOfferFits}
 use Rattle.dap_envelope.specs.Refusals.{max_command}
 use Rattle.dap_envelope.specs.declared.message.Message.{Message}
-use Rattle.dap_message.proofs.Sizes.{quoted_le, size, length-compact_text}
+use Rattle.dap_message.proofs.Sizes.{quoted_le, name_le, size, length-compact_text}
 
 length-canon : (m : Message) → length (canon m) ≡ size (object (members_of m.seq m.kind))
 unfolding canon tree_of
@@ -139,7 +139,7 @@ the_usual_offer_fits most room = le-leb (length (compact_text (offer_body usual_
 event_body_size : (e : AdapterEvent) → IsWithin e → length (quoted (event_name e)) + body_size (event_body (without_more e)) ≤ 900
 unfolding escape_byte
 event_body_size initialized h = omega arith
-event_body_size (output category text more) h = omega (arith, quoted_le category, quoted_le text)
+event_body_size (output category text more) h = omega (arith, name_le category h.0, quoted_le text)
 event_body_size (stopped reason thread more) h = omega (arith, quoted_le reason, int_size thread h.1)
 event_body_size (continued thread) h = omega (arith, int_size thread h)
 event_body_size (exited code) h = omega (arith, code_size code h)

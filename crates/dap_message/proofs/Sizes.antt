@@ -1,6 +1,10 @@
 -- How many bytes the compact text of a value has, as sums.
-use Rattle.std.proofs.Common.{◌≡◌, ℕ, ◌+◌, ◌*◌, ◌/◌, ◌%◌, nat_lt, ◌≤◌, List, [], ◌∷◌, ◌++◌, length, Bool, true, false, cond, Ordering, Less, Equal, Greater, nat_cmp, refl, arith, length-append}
+use Rattle.std.proofs.Common.{◌≡◌, ℕ, ◌+◌, ◌*◌, ◌/◌, ◌%◌, nat_lt, nat_le, ◌≤◌, ◌&&◌, ◌==◌, not, sym, true≢false, List, [], ◌∷◌, ◌++◌, length, Bool, true, false, cond, Ordering, Less, Equal, Greater, nat_cmp, refl, arith, length-append}
+use Rattle.std.proofs.lemmas.Bool.{leb-true, and_parts}
+use Rattle.std.proofs.lemmas.Bool.Decides.{nat_tests}
+use Rattle.std.specs.List.{list_all}
 use Rattle.std.specs.Ordering.{match_ordering}
+use Rattle.dap_json.specs.Names.{is_unescaped, is_name}
 use Rattle.std.specs.Cmp.Lexicographic.{slice_cmp}
 use Rattle.json.specs.Token as token
 use Rattle.std.specs.Char.{digit_char}
@@ -29,6 +33,36 @@ escape_le (x ∷ xs) = omega (arith, length-append (escape_byte x) (escape xs), 
 -- JSON makes up to six bytes of one, and two are its quotes
 pub quoted_le : (s : List ℕ) → length (quoted s) ≤ 6 * length s + 2
 quoted_le s = omega (arith, length-append (escape s) (34 ∷ []), escape_le s)
+
+-- a name is written as it is
+unescaped_by : (c : ℕ) (quote backslash : Bool) → (c == 34) ≡ quote → (c == 92) ≡ backslash → 32 ≤ c → (not quote && not backslash) ≡ true → length (escape_byte c) ≤ 1
+unfolding escape_byte
+unescaped_by c true backslash q b high is = absurd (true≢false (sym is))
+unescaped_by c false true q b high is = absurd (true≢false (sym is))
+unescaped_by c false false q b high is =
+    let e8 : (c == 8) ≡ false = grind (arith, nat_tests, high) in
+    let e9 : (c == 9) ≡ false = grind (arith, nat_tests, high) in
+    let e10 : (c == 10) ≡ false = grind (arith, nat_tests, high) in
+    let e12 : (c == 12) ≡ false = grind (arith, nat_tests, high) in
+    let e13 : (c == 13) ≡ false = grind (arith, nat_tests, high) in
+    let small : nat_lt c 32 ≡ false = grind (arith, nat_tests, high) in
+    rw (q, b, e8, e9, e10, e12, e13, small) (omega arith)
+
+unescaped_le : (c : ℕ) → is_unescaped c ≡ true → length (escape_byte c) ≤ 1
+unescaped_le c is =
+    let both = and_parts (nat_le 32 c) (not (c == 34) && not (c == 92)) is in
+    unescaped_by c (c == 34) (c == 92) refl refl (leb-true 32 c both.0) both.1
+
+unescaped_all : (s : List ℕ) → list_all is_unescaped s ≡ true → length (escape s) ≤ length s
+unescaped_all [] is = omega arith
+unescaped_all (c ∷ cs) is =
+    let both = and_parts (is_unescaped c) (list_all is_unescaped cs) is in
+    omega (arith, length-append (escape_byte c) (escape cs), unescaped_le c both.0, unescaped_all cs both.1)
+
+pub name_le : (s : List ℕ) → is_name s ≡ true → length (quoted s) ≤ 66
+name_le s is =
+    let both = and_parts (nat_le (length s) 64) (list_all is_unescaped s) is in
+    omega (arith, length-append (escape s) (34 ∷ []), unescaped_all s both.1, leb-true (length s) 64 both.0)
 
 -- ---- sums
 

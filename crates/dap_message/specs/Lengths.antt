@@ -4,6 +4,7 @@ use Rattle.std.specs.Prelude.{ℕ, ◌≤◌, ◌&&◌, ℤ, pos, negsuc, int_le
 use Rattle.serde_json.specs.Data.{Data}
 use Rattle.serde_json.specs.Written.{compact_text}
 use Rattle.dap_json.specs.Field.{max_seq}
+use Rattle.dap_json.specs.Names.{is_name}
 use Rattle.dap_json.specs.declared.more.Member.{Member}
 use Rattle.dap_command.specs.Numbers.{is_int}
 use Rattle.dap_command.specs.Offer.{usual_offer}
@@ -21,10 +22,10 @@ use Rattle.dap_envelope.specs.declared.message.Message.{Message}
 abbrev pub is_exit_code : ℤ → Bool
 is_exit_code z = int_le (negsuc 2147483647) z && int_le z (pos 2147483647)
 
--- what a debuggee tells at most: a category of 9 bytes, a text of 128, a reason of 64. Of what it says beside them nothing is said.
+-- what a debuggee tells at most: a category that is a name, a text of 128 bytes, a reason of 64. Of what it says beside them nothing is said.
 abbrev pub IsWithin : AdapterEvent → Type 0
 IsWithin initialized = ⊤
-IsWithin (output category text more) = (length category ≤ 9) × (length text ≤ 128)
+IsWithin (output category text more) = IsTrue (is_name category) × (length text ≤ 128)
 IsWithin (stopped reason thread more) = (length reason ≤ 64) × IsTrue (is_int thread)
 IsWithin (continued thread) = IsTrue (is_int thread)
 IsWithin (exited code) = IsTrue (is_exit_code code)

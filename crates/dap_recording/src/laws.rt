@@ -23,7 +23,6 @@ pub fn refusals_are_faults()
 {}
 
 /// The pieces of texts are the whole of them; none is empty, and none has more than 128 bytes.
-#[tactic(auto, using(crate::proofs::PieceLemmas::pieces_whole))]
 pub fn pieces_are_the_output()
     ensures { PiecesAreTheOutput }
 {}

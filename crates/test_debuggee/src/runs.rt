@@ -3,6 +3,7 @@
 use crate::playing::{THREE_MOMENTS, is_moved, is_played, three_moments};
 use crate::telling::{Query, is_told};
 use dap_debuggee::Category;
+use dap_json::Text;
 use dap_replay::Recorded;
 use std::alloc::Global;
 use std::test::Fail;
@@ -249,15 +250,20 @@ fn pieces_end_a_character(rt: HostRuntime) {
     assert!(rt; is_cut(rt.alloc()));
 }
 
-fn are_names() -> bool {
+fn are_names(alloc: Global) -> bool {
+    let Ok(name) = Text::copied(alloc, "gdb") else {
+        return false;
+    };
+    let own = Category::Other(name);
     Category::Console.name() == "console"
         && Category::Stdout.name() == "stdout"
         && Category::Stderr.name() == "stderr"
+        && own.name() == "gdb"
 }
 
 #[test]
 fn names(rt: HostRuntime) {
-    assert!(rt; are_names());
+    assert!(rt; are_names(rt.alloc()));
 }
 
 /// Sets of values, over the three moments: the object number of `Locals` is 1, and that of what `p` has is 0.
