@@ -347,6 +347,7 @@ turn
 > {"seq":4,"type":"request","command":"launch"}
 turn
 < {"command":"launch","request_seq":4,"seq":5,"success":true,"type":"response"}
+phase Running
 > {"seq":5,"type":"request","command":"pause","arguments":{"threadId":1}}
 turn
 < {"body":{"error":{"format":"{why}","id":1013,"showUser":true,"variables":{"why":"Not \"now\"."}}},"command":"pause","message":"debuggee","request_seq":5,"seq":6,"success":false,"type":"response"}
@@ -355,6 +356,7 @@ poll
 < {"body":{"category":"stdout","output":"go\n"},"event":"output","seq":7,"type":"event"}
 poll
 < {"body":{"allThreadsStopped":true,"reason":"entry","threadId":1},"event":"stopped","seq":8,"type":"event"}
+phase Stopped
 > {"seq":6,"type":"request","command":"stackTrace","arguments":{"threadId":1}}
 turn
 < {"body":{"stackFrames":[{"column":1,"id":1,"line":1,"name":"main","source":{"name":"a.c","path":"/a.c","sourceReference":1}}],"totalFrames":1},"command":"stackTrace","request_seq":6,"seq":9,"success":true,"type":"response"}
@@ -376,7 +378,7 @@ references 0
 phase Running
 "#,
     r#"
-# The failure of `launch` has 1024 bytes, that of `pause` one less, that of `stepBack` two more: its reason is left out.
+# The failure of `launch` has 1024 bytes, that of `pause` one less. That of `stepBack` would have two more: its reason is left out.
 row a reason of an act that just fits
 debuggee says zzzzzzzzzzzzzzzzzzzzzzzzzzzzzzzzzzzzzzzzzzzzzzzzzzzzzzzzzzzzzzzzzzzzzzzzzzzzzzzzzzzzzzzzzzzzzzzzzzzzzzzzzzzzzzzzzzzzzzzzzzzzzzzzzzzzzzzzzzzzzzzzzzzzzzzzzzzzzzzzzzzzzzzzzzzzzzzzzzzzzzzzzzzzzzzzzzzzzzzzzzzzzzzzzzzzzzzzzzzzzzzzzzzzzzzzzzzzzzzzzzzzzzzzzzzzzzzzzzzzzzzzzzzzzzzzzzzzzzzzzzzzzzzzzzzzzzzzzzzzzzzzzzzzzzzzzzzzzzzzzzzzzzzzzzzzzzzzzzzzzzzzzzzzzzzzzzzzzzzzzzzzzzzzzzzzzzzzzzzzzzzzzzzzzzzzzzzzzzzzzzzzzzzzzzzzzzzzzzzzzzzzzzzzzzzzzzzzzzzzzzzzzzzzzzzzzzzzzzzzzzzzzzzzzzzzzzzzzzzzzzzzzzzzzzzzzzzzzzzzzzzzzzzzzzzzzzzzzzzzzzzzzzzzzzzzzzzzzzzzzzzzzzzzzzzzzzzzzzzzzzzzzzzzzzzzzzzzzzzzzzzzzzzzzzzzzzzzzzzzzzzzzzzzzzzzzzzzzzzzzzzzzzzzzzzzzzzzzzzzzzzzzzzzzzzzzzzzzzzzzzzzzzzzzzzzzzzzzzzzzzzzzzzzzzzzzzzzzzzzzzzzzzzzzzzzzzzzzzzzzzzzzzzzzzzzzzzzzzzzzzzzzzzzzzzzzzzzzzzzzzzzzzzzzzzzzzzzzzzzzzzzzzzzzzzzzzzzzzzzzzzzzzzzzzzzzzzzzzzzzzzzzzzzzzzzzzzzzzzz
 limits 8192 1024 64 65536 4096 9007199254740991 2147483647
@@ -394,6 +396,7 @@ phase Configured
 > {"seq":4,"type":"request","command":"launch"}
 turn
 < {"command":"launch","request_seq":4,"seq":5,"success":true,"type":"response"}
+phase Running
 > {"seq":5,"type":"request","command":"pause","arguments":{"threadId":1}}
 turn
 < {"body":{"error":{"format":"{why}","id":1013,"showUser":true,"variables":{"why":"zzzzzzzzzzzzzzzzzzzzzzzzzzzzzzzzzzzzzzzzzzzzzzzzzzzzzzzzzzzzzzzzzzzzzzzzzzzzzzzzzzzzzzzzzzzzzzzzzzzzzzzzzzzzzzzzzzzzzzzzzzzzzzzzzzzzzzzzzzzzzzzzzzzzzzzzzzzzzzzzzzzzzzzzzzzzzzzzzzzzzzzzzzzzzzzzzzzzzzzzzzzzzzzzzzzzzzzzzzzzzzzzzzzzzzzzzzzzzzzzzzzzzzzzzzzzzzzzzzzzzzzzzzzzzzzzzzzzzzzzzzzzzzzzzzzzzzzzzzzzzzzzzzzzzzzzzzzzzzzzzzzzzzzzzzzzzzzzzzzzzzzzzzzzzzzzzzzzzzzzzzzzzzzzzzzzzzzzzzzzzzzzzzzzzzzzzzzzzzzzzzzzzzzzzzzzzzzzzzzzzzzzzzzzzzzzzzzzzzzzzzzzzzzzzzzzzzzzzzzzzzzzzzzzzzzzzzzzzzzzzzzzzzzzzzzzzzzzzzzzzzzzzzzzzzzzzzzzzzzzzzzzzzzzzzzzzzzzzzzzzzzzzzzzzzzzzzzzzzzzzzzzzzzzzzzzzzzzzzzzzzzzzzzzzzzzzzzzzzzzzzzzzzzzzzzzzzzzzzzzzzzzzzzzzzzzzzzzzzzzzzzzzzzzzzzzzzzzzzzzzzzzzzzzzzzzzzzzzzzzzzzzzzzzzzzzzzzzzzzzzzzzzzzzzzzzzzzzzzzzzzzzzzzzzzzzzzzzzzzzzzzzzzzzzzzzzzzzzzzzzzzzzzzzzzzzzzzzzzzzzzzzzzzzzzzzzzzzzzzzzzzzzzzzzzzzzzzzzzzzzzzzzzzzzzzzzzzzzzzz"}}},"command":"pause","message":"debuggee","request_seq":5,"seq":6,"success":false,"type":"response"}
@@ -402,13 +405,14 @@ poll
 < {"body":{"category":"stdout","output":"go\n"},"event":"output","seq":7,"type":"event"}
 poll
 < {"body":{"allThreadsStopped":true,"reason":"entry","threadId":1},"event":"stopped","seq":8,"type":"event"}
+phase Stopped
 > {"seq":6,"type":"request","command":"stepBack","arguments":{"threadId":1}}
 turn
 < debuggee seq 9 to 6 stepBack
 phase Stopped
 "#,
     r#"
-# With one more, that of `launch` is left out, and that of `pause` just fits.
+# With one more `launch` fails without its reason, and the failure of `pause` just fits.
 row a reason of an act that is a byte too long
 debuggee says zzzzzzzzzzzzzzzzzzzzzzzzzzzzzzzzzzzzzzzzzzzzzzzzzzzzzzzzzzzzzzzzzzzzzzzzzzzzzzzzzzzzzzzzzzzzzzzzzzzzzzzzzzzzzzzzzzzzzzzzzzzzzzzzzzzzzzzzzzzzzzzzzzzzzzzzzzzzzzzzzzzzzzzzzzzzzzzzzzzzzzzzzzzzzzzzzzzzzzzzzzzzzzzzzzzzzzzzzzzzzzzzzzzzzzzzzzzzzzzzzzzzzzzzzzzzzzzzzzzzzzzzzzzzzzzzzzzzzzzzzzzzzzzzzzzzzzzzzzzzzzzzzzzzzzzzzzzzzzzzzzzzzzzzzzzzzzzzzzzzzzzzzzzzzzzzzzzzzzzzzzzzzzzzzzzzzzzzzzzzzzzzzzzzzzzzzzzzzzzzzzzzzzzzzzzzzzzzzzzzzzzzzzzzzzzzzzzzzzzzzzzzzzzzzzzzzzzzzzzzzzzzzzzzzzzzzzzzzzzzzzzzzzzzzzzzzzzzzzzzzzzzzzzzzzzzzzzzzzzzzzzzzzzzzzzzzzzzzzzzzzzzzzzzzzzzzzzzzzzzzzzzzzzzzzzzzzzzzzzzzzzzzzzzzzzzzzzzzzzzzzzzzzzzzzzzzzzzzzzzzzzzzzzzzzzzzzzzzzzzzzzzzzzzzzzzzzzzzzzzzzzzzzzzzzzzzzzzzzzzzzzzzzzzzzzzzzzzzzzzzzzzzzzzzzzzzzzzzzzzzzzzzzzzzzzzzzzzzzzzzzzzzzzzzzzzzzzzzzzzzzzzzzzzzzzzzzzzzzzzzzzzzzzzzzzzzzzzzzzzzzzzzzzzzzzzzzzzzzzzzzzzzzzzzzzzzzzzzzzzz
 limits 8192 1024 64 65536 4096 9007199254740991 2147483647
@@ -426,6 +430,7 @@ phase Configured
 > {"seq":4,"type":"request","command":"launch"}
 turn
 < {"command":"launch","request_seq":4,"seq":5,"success":true,"type":"response"}
+phase Running
 > {"seq":5,"type":"request","command":"pause","arguments":{"threadId":1}}
 turn
 < {"body":{"error":{"format":"{why}","id":1013,"showUser":true,"variables":{"why":"zzzzzzzzzzzzzzzzzzzzzzzzzzzzzzzzzzzzzzzzzzzzzzzzzzzzzzzzzzzzzzzzzzzzzzzzzzzzzzzzzzzzzzzzzzzzzzzzzzzzzzzzzzzzzzzzzzzzzzzzzzzzzzzzzzzzzzzzzzzzzzzzzzzzzzzzzzzzzzzzzzzzzzzzzzzzzzzzzzzzzzzzzzzzzzzzzzzzzzzzzzzzzzzzzzzzzzzzzzzzzzzzzzzzzzzzzzzzzzzzzzzzzzzzzzzzzzzzzzzzzzzzzzzzzzzzzzzzzzzzzzzzzzzzzzzzzzzzzzzzzzzzzzzzzzzzzzzzzzzzzzzzzzzzzzzzzzzzzzzzzzzzzzzzzzzzzzzzzzzzzzzzzzzzzzzzzzzzzzzzzzzzzzzzzzzzzzzzzzzzzzzzzzzzzzzzzzzzzzzzzzzzzzzzzzzzzzzzzzzzzzzzzzzzzzzzzzzzzzzzzzzzzzzzzzzzzzzzzzzzzzzzzzzzzzzzzzzzzzzzzzzzzzzzzzzzzzzzzzzzzzzzzzzzzzzzzzzzzzzzzzzzzzzzzzzzzzzzzzzzzzzzzzzzzzzzzzzzzzzzzzzzzzzzzzzzzzzzzzzzzzzzzzzzzzzzzzzzzzzzzzzzzzzzzzzzzzzzzzzzzzzzzzzzzzzzzzzzzzzzzzzzzzzzzzzzzzzzzzzzzzzzzzzzzzzzzzzzzzzzzzzzzzzzzzzzzzzzzzzzzzzzzzzzzzzzzzzzzzzzzzzzzzzzzzzzzzzzzzzzzzzzzzzzzzzzzzzzzzzzzzzzzzzzzzzzzzzzzzzzzzzzzzzzzzzzzzzzzzzzzzzzzzzzzzzzzzzzzzzzz"}}},"command":"pause","message":"debuggee","request_seq":5,"seq":6,"success":false,"type":"response"}
@@ -434,6 +439,7 @@ poll
 < {"body":{"category":"stdout","output":"go\n"},"event":"output","seq":7,"type":"event"}
 poll
 < {"body":{"allThreadsStopped":true,"reason":"entry","threadId":1},"event":"stopped","seq":8,"type":"event"}
+phase Stopped
 > {"seq":6,"type":"request","command":"stepBack","arguments":{"threadId":1}}
 turn
 < debuggee seq 9 to 6 stepBack
