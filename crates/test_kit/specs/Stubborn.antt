@@ -90,6 +90,8 @@ pub record Refuses (v : StubbornView) (a : Act) (r : Reply) (w : StubbornView) :
 pub record Plays (v : StubbornView) (a : Act) (r : Reply) (w : StubbornView) : Type 0 where
   pub other : IsTrue (not (is_refusing v a))
   pub inner : FollowsPlayed v.inner (passed_on a) r w.inner
+  pub starts : w.starts ≡ v.starts
+  pub why : w.why ≡ v.why
   pub refusals : w.refusals ≡ v.refusals
   pub last : w.last ≡ None
 
