@@ -3,6 +3,7 @@
 use crate::playing::{THREE_MOMENTS, is_moved, is_played, three_moments};
 use crate::telling::{Query, is_told};
 use dap_debuggee::Category;
+use dap_json::Text;
 use dap_replay::Recorded;
 use std::alloc::Global;
 use std::test::Fail;
