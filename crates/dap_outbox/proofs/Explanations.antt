@@ -1,8 +1,7 @@
 -- A failure with why the debuggee refused is no longer with a smaller own number.
-use Rattle.std.proofs.Common.{◌≡◌, ℕ, zero, suc, ◌+◌, ◌/◌, ◌^◌, ◌<◌, ◌≤◌, ◌⊎◌, inl, inr, List, [], ◌∷◌, ◌++◌, length, decimal, Bool, true, false, Some, refl, sym, ap, ◌∙◌, arith, length-append}
-use Rattle.std.proofs.lemmas.Bool.{leb-true, le-leb}
+use Rattle.std.proofs.Common.{◌≡◌, ℕ, zero, suc, ◌+◌, ◌/◌, ◌^◌, ◌<◌, ◌≤◌, nat_lt, List, [], ◌∷◌, ◌++◌, length, decimal, Bool, true, false, Some, refl, sym, ap, ◌∙◌, arith, length-append}
+use Rattle.std.proofs.lemmas.Bool.{leb-true, le-leb, ltb-true, ltb-false}
 use Rattle.std.proofs.lemmas.Fmt.{decimal_nonempty, decimal_step, length-decimal-le}
-use Rattle.std.proofs.lemmas.Nat.{order}
 use Rattle.std.specs.Fmt.{digits}
 use Rattle.json.specs.Print.{escape_byte}
 use Rattle.serde_json.specs.Data.{Data, object}
@@ -19,14 +18,16 @@ use Rattle.dap_outbox.specs.Outbox.{explanation_fits_as}
 -- a smaller number has no more digits
 digits-le : (k a b : ℕ) → a ≤ b → b < 10 ^ k → b < 2 ^ 64 → length (decimal a) ≤ length (decimal b)
 digits-le zero a b h g small = let same : a ≡ b = omega arith in rw same (omega arith)
-digits-le (suc k) a b h g small = by (order a 10)
+digits-le (suc k) a b h g small = by (nat_lt a 10) refl
   where
-    by : (a < 10) ⊎ (10 ≤ a) → length (decimal a) ≤ length (decimal b)
-    by (inl one) =
+    by : (short : Bool) → nat_lt a 10 ≡ short → length (decimal a) ≤ length (decimal b)
+    by true is =
+        let one : a < 10 = ltb-true a 10 is in
         let short : length (decimal a) ≤ 1 = length-decimal-le 1 a (omega arith) (omega arith) (omega arith) in
         let some : 0 < length (decimal b) = decimal_nonempty b small in
         omega arith
-    by (inr more) =
+    by false is =
+        let more : 10 ≤ a = ltb-false a 10 is in
         let left : length (decimal a) ≡ length (decimal (a / 10)) + 1 = ap length (decimal_step a more (omega arith)) ∙ length-append (decimal (a / 10)) _ in
         let right : length (decimal b) ≡ length (decimal (b / 10)) + 1 = ap length (decimal_step b (omega arith) small) ∙ length-append (decimal (b / 10)) _ in
         let rest = digits-le k (a / 10) (b / 10) (omega arith) (omega arith) (omega arith) in

@@ -79,7 +79,7 @@ pub fn answer_chosen(
 
 // ---- with why the debuggee refused
 
-/// Whether why fits in the answer to each chosen request of those that are still to come, with this own number.
+/// Whether why fits in the answer to each chosen request of those that are still to come, with the own number `last`.
 fn can_explain_rest(
     alloc: Global,
     outbox: &mut Outbox,
@@ -87,15 +87,15 @@ fn can_explain_rest(
     mut requests: InOrder<'_>,
     which: Chosen,
     told: &Explanation,
-    seq: u64,
+    last: u64,
     most: usize,
 ) -> Result<bool, AllocError>
-    ensures fits { IfOk result (λ ok. ok ≡ explanations_fit seq most told.now (chosen_of which kept.now.kept requests.entry)) }
+    ensures fits { IfOk result (λ ok. ok ≡ explanations_fit last most told.now (chosen_of which kept.now.kept requests.entry)) }
     ensures same { outbox.new ≡ outbox.old }
 {
     while let Some(request) = requests.next() {
         if is_chosen(kept, which, request.seq) {
-            if !outbox.can_explain(alloc, request, told, seq, most)? {
+            if !outbox.can_explain(alloc, request, told, last, most)? {
                 return Ok(false);
             }
         }
@@ -109,13 +109,13 @@ fn explain(
     outbox: &mut Outbox,
     request: &Entry,
     told: &Explanation,
-    seq: u64,
+    last: u64,
     most: usize,
 ) -> Result<(), AllocError>
     requires left { outbox.old.numbers.used < outbox.old.numbers.last }
-    requires last { outbox.old.numbers.last ≤ seq }
-    requires small { seq ≤ max_seq }
-    requires fits { IsTrue (explanation_fits_as seq most request.now told.now) }
+    requires last { outbox.old.numbers.last ≤ last }
+    requires small { last ≤ max_seq }
+    requires fits { IsTrue (explanation_fits_as last most request.now told.now) }
     ensures writes { OnOk result (AppendsDraft most outbox.old outbox.new (reply request.now (explained told.now))) }
     ensures before { outbox.new.before ≡ outbox.old.before }
 {
@@ -133,46 +133,46 @@ fn explain_rest(
     mut requests: InOrder<'_>,
     which: Chosen,
     told: &Explanation,
-    seq: u64,
+    last: u64,
     most: usize,
 ) -> Result<(), AllocError>
     requires room { outbox.old.numbers.used + length (chosen_of which kept.now.kept requests.entry) ≤ outbox.old.numbers.last }
-    requires last { outbox.old.numbers.last ≤ seq }
-    requires small { seq ≤ max_seq }
-    requires fits { IsTrue (explanations_fit seq most told.now (chosen_of which kept.now.kept requests.entry)) }
+    requires last { outbox.old.numbers.last ≤ last }
+    requires small { last ≤ max_seq }
+    requires fits { IsTrue (explanations_fit last most told.now (chosen_of which kept.now.kept requests.entry)) }
     ensures writes { OnOk result (WritesWithin most outbox.old outbox.new (answer_where (λ seq. is_chosen which kept.now.kept seq) (explained told.now) requests.entry)) }
     ensures before { outbox.new.before ≡ outbox.old.before }
 {
     while let Some(request) = requests.next() {
         if is_chosen(kept, which, request.seq) {
-            explain(alloc, outbox, request, told, seq, most)?;
+            explain(alloc, outbox, request, told, last, most)?;
         }
     }
     Ok(())
 }
 
-/// Answers each chosen request with why the debuggee refused, by arrival, if no answer would have more than so many bytes with the
-/// own number `seq`, which is none below the last one: whether they were. Else nothing is written.
+/// Answers each chosen request with why the debuggee refused, by arrival, if none of these answers would have more than so many
+/// bytes with the greatest own number, which is `last`: whether they were. Else nothing is written.
 pub fn explain_chosen(
     alloc: Global,
     outbox: &mut Outbox,
     kept: &Outstanding,
     which: Chosen,
     told: &Explanation,
-    seq: u64,
+    last: u64,
     most: usize,
 ) -> Result<bool, AllocError>
     requires room { HasNumbersFor outbox.old which kept.now.kept }
-    requires last { outbox.old.numbers.last ≤ seq }
-    requires small { seq ≤ max_seq }
-    ensures fits { IfOk result (λ ok. ok ≡ explanations_fit seq most told.now (chosen_of which kept.now.kept (entries kept.now.kept))) }
+    requires last { outbox.old.numbers.last ≤ last }
+    requires small { last ≤ max_seq }
+    ensures fits { IfOk result (λ ok. ok ≡ explanations_fit last most told.now (chosen_of which kept.now.kept (entries kept.now.kept))) }
     ensures writes { IfOk result (λ ok. ExplainsChosen most outbox.old outbox.new which told.now kept.now.kept ok) }
     ensures too_long { IfOk result (λ ok. ok ≡ false → outbox.new ≡ outbox.old) }
     ensures before { outbox.new.before ≡ outbox.old.before }
 {
-    if !can_explain_rest(alloc, outbox, kept, kept.in_order(), which, told, seq, most)? {
+    if !can_explain_rest(alloc, outbox, kept, kept.in_order(), which, told, last, most)? {
         return Ok(false);
     }
-    explain_rest(alloc, outbox, kept, kept.in_order(), which, told, seq, most)?;
+    explain_rest(alloc, outbox, kept, kept.in_order(), which, told, last, most)?;
     Ok(true)
 }

@@ -21,6 +21,9 @@ pub(crate) const NAME: &str = "sample.toy";
 /// The path of the source, by which a client names it.
 pub(crate) const PATH: &str = "/toy/sample.toy";
 
+/// Why it does not go back.
+pub(crate) const NO_WAY_BACK: &str = "There is no way back.";
+
 /// Why a text that is no variable of a frame has no value.
 pub(crate) const NO_VARIABLE: &str = "There is no variable of that name.";
 

@@ -2,7 +2,7 @@
 
 use crate::call::{Call, Local};
 use crate::news::{LastAct, News, Reason};
-use crate::program::{NO_VARIABLE, PATH, TEXT};
+use crate::program::{NO_VARIABLE, NO_WAY_BACK, PATH, TEXT};
 use crate::{call, queries};
 use dap_command::SourceKey;
 use dap_debuggee::{
@@ -163,15 +163,19 @@ impl Toy {
         Ok(happening)
     }
 
-    /// Goes on from a stop, or refuses.
-    fn go_on(&mut self, how: How, thread: i64) -> Result<(), ActFault>
+    /// Goes on from a stop, or refuses and says why.
+    fn go_on(&mut self, alloc: Global, how: How, thread: i64) -> Result<(), ActFault>
         requires { self.old.state ≡ State.Stopped }
         ensures { Replies result (λ reply. FollowsToy self.old (to_resume how thread) reply self.new) }
     {
         match until(how, self.stack.len()) {
             None => {
+                let text = Text::copied(alloc, NO_WAY_BACK)?;
                 self.note(LastAct::Refused(Asked::Resume { how, thread }));
-                Err(ActFault::Refused(None))
+                Err(ActFault::Refused(Some(Explanation {
+                    text,
+                    show_user: true,
+                })))
             }
             Some(until) => {
                 self.run = Run {
@@ -245,9 +249,9 @@ impl Debuggee for Toy {
         }
     }
 
-    fn resume(&mut self, _alloc: Global, how: How, thread: i64) -> Result<(), ActFault> {
+    fn resume(&mut self, alloc: Global, how: How, thread: i64) -> Result<(), ActFault> {
         match self.state {
-            State::Stopped => self.go_on(how, thread),
+            State::Stopped => self.go_on(alloc, how, thread),
             State::NotStarted | State::Running | State::Gone => {
                 self.note(LastAct::Refused(Asked::Resume { how, thread }));
                 Err(ActFault::Refused(None))

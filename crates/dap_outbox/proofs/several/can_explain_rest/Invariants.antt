@@ -5,7 +5,7 @@ use Rattle.dap_outbox.proofs.several.can_explain_rest.Given as goal
 -- in those before it fits
 abbrev pub invariant-loop-request : goal.invariant-loop-request
 invariant-loop-request l = record {
-  so_far : explanations_fit l.fn.seq l.fn.most l.fn.told (chosen_of l.fn.which l.fn.kept.kept l.requests) ≡ explanations_fit l.fn.seq l.fn.most l.fn.told (chosen_of l.fn.which l.fn.kept.kept l.initial.requests);
+  so_far : explanations_fit l.fn.last l.fn.most l.fn.told (chosen_of l.fn.which l.fn.kept.kept l.requests) ≡ explanations_fit l.fn.last l.fn.most l.fn.told (chosen_of l.fn.which l.fn.kept.kept l.initial.requests);
   same : l.outbox ≡ l.initial.outbox;
 }
 
