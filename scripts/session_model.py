@@ -136,8 +136,9 @@ class Closed(Exception):
 
 
 def reason_of(moment, other):
-    """What a stop there is told with: the reason that the moment has, or else the move's own. No event tells its texts."""
-    return {"reason": moment.get("stop", other)}
+    """What a stop there is told with: the reason that the moment has, with its texts, or else the move's own."""
+    texts = {key: moment[key] for key in ("description", "text") if "stop" in moment and key in moment}
+    return {"reason": moment.get("stop", other), **texts}
 
 
 class Recorded:

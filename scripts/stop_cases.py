@@ -20,8 +20,8 @@ def recording(*moments):
 
 
 def stopped(reason, thread=1, **texts):
-    """The stop at a moment with this reason and these texts, which no event tells."""
-    return tells("stopped", {"allThreadsStopped": True, "reason": reason, "threadId": thread})
+    """The stop at a moment with this reason and these texts."""
+    return tells("stopped", {"allThreadsStopped": True, **texts, "reason": reason, "threadId": thread})
 
 
 def wrote(text):

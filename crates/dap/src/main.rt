@@ -481,7 +481,7 @@ fn offers_line(alloc: Global, name: &str, fault: &OffersFault) -> Result<Vec<u8>
             line.extend_from_slice(b": the key ")?;
             line.extend_from_slice(key.as_str().as_bytes())?;
             line.extend_from_slice(
-                b" of offers is refused: nothing here serves that, or it is no flag\n",
+                b" of offers is refused: it can't be offered\n",
             )?;
         }
         OffersFault::TooLarge => {

@@ -4,7 +4,7 @@ use Rattle.serde_json.specs.Data.{Data}
 use Rattle.dap_frame.specs.Settings.{Settings, usual_settings}
 use Rattle.dap_envelope.specs.Meaning.{Msg}
 use Rattle.dap_envelope.specs.declared.message.Kind.TheVariants.{Event}
-use Rattle.dap_debuggee.specs.Shown.{Shown}
+use Rattle.dap_debuggee.specs.Shown.{Shown, SameButPlaces}
 use Rattle.dap_decision.specs.declared.phase.Phase.TheVariants.{Running, Stopped, Exited, Ended}
 use Rattle.dap_plan.specs.Carried.{Goes}
 use Rattle.dap_plan.specs.Plan.{at_once, no_change}
@@ -64,7 +64,7 @@ module _ {D : Type 0} (shown : D → Shown) (follows : Goes D) (limits : Setting
 
 module _ {D : Type 0} (shown : D → Shown) (follows : Goes D) (a : AdapterState D) where
   -- a host speaks twice, and no message is made
-  host_speaks : (d e : D) → shown d ≡ shown a.debuggee → shown e ≡ shown d → InTurn shown follows a [] [] (record a { debuggee = e })
+  host_speaks : (d e : D) → SameButPlaces (shown a.debuggee) (shown d) → SameButPlaces (shown d) (shown e) → InTurn shown follows a [] [] (record a { debuggee = e })
   host_speaks d e first second =
       let b : AdapterState D = record a { debuggee = d } in
       let c : AdapterState D = record a { debuggee = e } in

@@ -9,7 +9,7 @@ use Rattle.dap_history.specs.Pieces.{Whole, FrameClosed, BodyRefused}
 use Rattle.dap_envelope.specs.Meaning.{Msg}
 use Rattle.dap_envelope.specs.ReadBack.{AllReadBack}
 use Rattle.dap_envelope.specs.declared.message.Message.{Message}
-use Rattle.dap_debuggee.specs.Shown.{Shown}
+use Rattle.dap_debuggee.specs.Shown.{Shown, SameButPlaces}
 use Rattle.dap_tables.specs.Outstanding.{Kept}
 use Rattle.dap_plan.specs.declared.fault.AdapterFault.{AdapterFault}
 use Rattle.dap_plan.specs.declared.fault.AdapterFault.TheVariants.{Frame, Body, SeqExhausted, OutOfMemory}
@@ -180,9 +180,9 @@ PollsWithNone old result = old.fault ≡ None → has_debuggee old.session.phase
 
 -- ---- exchange
 
--- What a host told the debuggee and what it has asked of the host are exchanged: it shows the same, and all else is the same.
+-- What a host told the debuggee and what it has asked of the host are exchanged: it shows the same, but for where breakpoints are, and all else is the same.
 pub record Exchanges {D : Type 0} (shown : D → Shown) (old new : AdapterState D) : Type 0 where
-  pub shows_the_same : shown new.debuggee ≡ shown old.debuggee
+  pub shows_the_same : SameButPlaces (shown old.debuggee) (shown new.debuggee)
   pub all_else : new ≡ record old { debuggee = new.debuggee }
 
 -- ---- what holds between calls

@@ -133,6 +133,14 @@ impl<D: Debuggee + Drop> Adapter<D> {
         self.session.breakpoints()
     }
 
+    /// Those of a source, in the order in which they were asked for: the id of each, which its client knows it by, and the line,
+    /// counted from 1, that was asked for. A path and a reference are two names of a source.
+    pub fn breakpoints_of(&self, source: &SourceKey) -> &[(u64, u32)]
+        ensures { result.now ≡ set_of source.now self.now.session.breakpoints.sources }
+    {
+        self.session.breakpoints_of(source)
+    }
+
     /// How many own requests are not answered: at most one, which asks for a terminal.
     pub fn asked(&self) -> usize
         ensures asked { result ≡ length (own_requests self.now.session.asked) }

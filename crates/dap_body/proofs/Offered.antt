@@ -13,8 +13,8 @@ use Rattle.dap_command.specs.declared.capabilities.Capabilities.{Capabilities}
 use Rattle.dap_command.specs.declared.command.Gate.{Gate}
 use Rattle.dap_command.specs.declared.command.Gate.TheVariants.{BreakpointLocations, Cancel, Completions, ConfigurationDone, ExceptionInfo, FunctionBreakpoints, LoadedSources, Modules, Restart, SetVariable, StepBack, Terminate}
 use Rattle.dap_body.specs.BesideLaws.{is_own}
-use Rattle.dap_body.specs.ResponseBody.{set_flag, flag_fields, all_gates, initialize_fields, initialize_body}
-use Rattle.dap_body.specs.Row.{Row, whole_if_any, value_data}
+use Rattle.dap_body.specs.ResponseBody.{flag_fields, all_gates, initialize_fields, initialize_body}
+use Rattle.dap_body.specs.Row.{flag_if_set, Row, whole_if_any, value_data}
 use Rattle.dap_body.proofs.Among.{cmp, same, at, at-by, at-cons, at-other}
 use Rattle.dap_body.proofs.FitMembers.{own}
 
@@ -29,7 +29,7 @@ abbrev is_on : List ℕ → Capabilities → List Gate → Bool → Bool
 is_on key c [] rest = rest
 is_on key c (g ∷ gates) rest = if same (cmp key (flag_of g)) then (has c g || is_on key c gates rest) else is_on key c gates rest
 
-flag_at : (o : Ordering) (on : Bool) (rest : Option Data) → val (at-by o (value_data (set_flag on)) rest) ≡ (if same o then (on || val rest) else val rest)
+flag_at : (o : Ordering) (on : Bool) (rest : Option Data) → val (at-by o (value_data (flag_if_set on)) rest) ≡ (if same o then (on || val rest) else val rest)
 flag_at Less true rest = refl
 flag_at Less false rest = refl
 flag_at Equal true rest = refl
@@ -40,7 +40,7 @@ flag_at Greater false rest = refl
 flags_at : (key : List ℕ) (c : Capabilities) (gates : List Gate) (row : Row) → val (at key (flag_fields c gates ++ row)) ≡ is_on key c gates (val (at key row))
 flags_at key c [] row = refl
 flags_at key c (g ∷ gates) row =
-    ap val (at-cons key (flag_of g, set_flag (has c g)) (flag_fields c gates ++ row))
+    ap val (at-cons key (flag_of g, flag_if_set (has c g)) (flag_fields c gates ++ row))
     ∙ flag_at (cmp key (flag_of g)) (has c g) (at key (flag_fields c gates ++ row))
     ∙ ap (λ rest. if same (cmp key (flag_of g)) then (has c g || rest) else rest) (flags_at key c gates row)
 
@@ -85,8 +85,8 @@ none_among : (key : List ℕ) (c : Capabilities) (gates : List Gate) (row : Row)
 none_among key c [] row e = refl
 none_among key c (g ∷ gates) row e =
     let p = and_parts (not (same (cmp key (flag_of g)))) (none_same key gates) e in
-    at-cons key (flag_of g, set_flag (has c g)) (flag_fields c gates ++ row)
-    ∙ at-other (cmp key (flag_of g)) (value_data (set_flag (has c g))) (at key (flag_fields c gates ++ row)) (no (same (cmp key (flag_of g))) p.0)
+    at-cons key (flag_of g, flag_if_set (has c g)) (flag_fields c gates ++ row)
+    ∙ at-other (cmp key (flag_of g)) (value_data (flag_if_set (has c g))) (at key (flag_fields c gates ++ row)) (no (same (cmp key (flag_of g))) p.0)
     ∙ none_among key c gates row p.1
 
 pub at_none : (c : Capabilities) (more : List Member) (key : List ℕ) → is_own key (initialize_fields c) ≡ true → none_same key all_gates ≡ true → get key (initialize_body c more) ≡ None

@@ -10,8 +10,8 @@ use Rattle.dap_command.specs.Capabilities.{has, with_flag, capabilities_data}
 use Rattle.dap_command.specs.Command.{flag_of}
 use Rattle.dap_command.specs.declared.capabilities.Capabilities.{Capabilities}
 use Rattle.dap_command.specs.declared.command.Gate.{Gate}
-use Rattle.dap_body.specs.ResponseBody.{set_flag, flag_fields, all_gates, initialize_fields, initialize_body}
-use Rattle.dap_body.specs.Row.{Row, whole_if_any, tree_if_any, value_data, with_member, members_of, object_of}
+use Rattle.dap_body.specs.ResponseBody.{flag_fields, all_gates, initialize_fields, initialize_body}
+use Rattle.dap_body.specs.Row.{flag_if_set, Row, whole_if_any, tree_if_any, value_data, with_member, members_of, object_of}
 use Rattle.dap_body.proofs.Among.{cmp, among-none}
 
 -- the key stands behind each of these
@@ -40,7 +40,7 @@ none-last : (key : List ℕ) (row : Row) → members_of row ≡ members_of (row 
 none-last key [] = refl
 none-last key (f ∷ row) = ap (with_member f.0 (value_data f.1)) (none-last key row)
 
-flag-last : (g : Gate) (on : Bool) (row : Row) → is_behind (flag_of g) row ≡ true → with_flag g on (members_of row) ≡ members_of (row ++ (flag_of g, set_flag on) ∷ [])
+flag-last : (g : Gate) (on : Bool) (row : Row) → is_behind (flag_of g) row ≡ true → with_flag g on (members_of row) ≡ members_of (row ++ (flag_of g, flag_if_set on) ∷ [])
 flag-last g true row h = put-last (flag_of g) (boolean true) row h
 flag-last g false row h = none-last (flag_of g) row
 
@@ -52,14 +52,14 @@ flags_onto c (g ∷ gates) ms = flags_onto c gates (with_flag g (has c g) ms)
 
 abbrev are_behind : Capabilities → Row → List Gate → Bool
 are_behind c row [] = true
-are_behind c row (g ∷ gates) = is_behind (flag_of g) row && are_behind c (row ++ (flag_of g, set_flag (has c g)) ∷ []) gates
+are_behind c row (g ∷ gates) = is_behind (flag_of g) row && are_behind c (row ++ (flag_of g, flag_if_set (has c g)) ∷ []) gates
 
 onto : (c : Capabilities) (gates : List Gate) (row : Row) → are_behind c row gates ≡ true → flags_onto c gates (members_of row) ≡ members_of (row ++ flag_fields c gates)
 onto c [] row h = ap members_of (sym (append-nil row))
 onto c (g ∷ gates) row h =
-    let p = and_parts (is_behind (flag_of g) row) (are_behind c (row ++ (flag_of g, set_flag (has c g)) ∷ []) gates) h in
-    ap (flags_onto c gates) (flag-last g (has c g) row p.0) ∙ onto c gates (row ++ (flag_of g, set_flag (has c g)) ∷ []) p.1
-    ∙ ap members_of (append_assoc row ((flag_of g, set_flag (has c g)) ∷ []) (flag_fields c gates))
+    let p = and_parts (is_behind (flag_of g) row) (are_behind c (row ++ (flag_of g, flag_if_set (has c g)) ∷ []) gates) h in
+    ap (flags_onto c gates) (flag-last g (has c g) row p.0) ∙ onto c gates (row ++ (flag_of g, flag_if_set (has c g)) ∷ []) p.1
+    ∙ ap members_of (append_assoc row ((flag_of g, flag_if_set (has c g)) ∷ []) (flag_fields c gates))
 
 -- what is never written behind the flags
 nothing-behind : (row : Row) → members_of (row ++ (codes "variables", whole_if_any None) ∷ (codes "variablesReference", whole_if_any None) ∷ []) ≡ members_of row

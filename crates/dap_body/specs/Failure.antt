@@ -1,10 +1,10 @@
 -- Why a request failed: Specification, "ErrorResponse" and "Message".
 -- The numbers, the short names, the texts and their one order are this profile's choice, but for the short names `cancelled` and `notStopped`, which are the standard's own ("Response").
-use Rattle.std.specs.Prelude.{ℕ, List, [], ◌∷◌, ◌++◌, Bool, true, false, Option, Some, None, codes}
-use Rattle.serde_json.specs.Data.{Data, boolean}
+use Rattle.std.specs.Prelude.{ℕ, List, [], ◌∷◌, ◌++◌, Bool, codes}
+use Rattle.serde_json.specs.Data.{Data}
 use Rattle.dap_command.specs.Key.{text_of}
 use Rattle.dap_command.specs.declared.key.Key.{Key}
-use Rattle.dap_body.specs.Row.{Row, object_of, text, whole, tree, tree_if_any}
+use Rattle.dap_body.specs.Row.{Row, object_of, text, whole, tree, flag_if_set}
 use Rattle.dap_body.specs.declared.failure.Failure.{Failure}
 use Rattle.dap_body.specs.declared.failure.Failure.TheVariants.{NotInitialized, AlreadyInitialized, UnknownCommand, Unsupported, BadArguments, WrongPhase, NotStopped, UnknownThread, StaleReference, UnknownSource, Debuggee, TooManyBreakpoints, TooManyReferences, ReferencesExhausted, TooLarge, Busy, Cancelled, TerminalRefused}
 
@@ -61,17 +61,12 @@ failure_body failure = error_body (row_of failure).id (row_of failure).format
 
 -- ---- why the debuggee refused: a format with one variable, which is the text that the debuggee gives
 
--- a flag that is left out where it is not set
-abbrev pub flag_if_set : Bool → Option Data
-flag_if_set true = Some (boolean true)
-flag_if_set false = None
-
 abbrev pub variables_row : List ℕ → Row
 variables_row why = (codes "why", text why) ∷ []
 
 abbrev pub explained_cause_row : Bool → List ℕ → Row
 explained_cause_row show_user why =
-    (codes "format", text (codes "{why}")) ∷ (codes "id", whole (row_of Debuggee).id) ∷ (codes "showUser", tree_if_any (flag_if_set show_user))
+    (codes "format", text (codes "{why}")) ∷ (codes "id", whole (row_of Debuggee).id) ∷ (codes "showUser", flag_if_set show_user)
     ∷ (codes "variables", tree (object_of (variables_row why))) ∷ []
 
 abbrev pub explained_row : Bool → List ℕ → Row

@@ -11,7 +11,7 @@ use Rattle.dap_command.specs.declared.command.Gate.{Gate}
 use Rattle.dap_command.specs.declared.command.Gate.TheVariants as gate
 use Rattle.dap_json.specs.declared.more.Member.{Member}
 use Rattle.dap_body.specs.Beside.{beside}
-use Rattle.dap_body.specs.Row.{Value, Row, object_of, list_of, text, whole, integer, flag, tree, text_if_any, whole_if_any, tree_if_any}
+use Rattle.dap_body.specs.Row.{Value, Row, flag_if_set, object_of, list_of, text, whole, integer, flag, tree, text_if_any, whole_if_any, tree_if_any}
 use Rattle.dap_body.specs.declared.response.Breakpoint.{Breakpoint}
 use Rattle.dap_body.specs.declared.response.Scope.{Scope}
 use Rattle.dap_body.specs.declared.response.Source.{Source}
@@ -61,12 +61,8 @@ variable v = beside (variable_fields v) v.more
 
 -- ---- what is offered
 
--- a flag is written where it is set
-abbrev pub set_flag : Bool → Value
-set_flag on = tree_if_any (if on then Some (boolean true) else None)
-
 abbrev pub flag_fields : Capabilities → List Gate → Row
-flag_fields c gates = map (λ g. (flag_of g, set_flag (has c g))) gates
+flag_fields c gates = map (λ g. (flag_of g, flag_if_set (has c g))) gates
 
 -- in the byte order of their flags
 abbrev pub all_gates : List Gate

@@ -19,6 +19,10 @@ pub data Value : Type 0 where
   whole_if_any : Option ℕ → Value
   tree_if_any : Option Data → Value
 
+-- a flag that is left out where it is not set
+abbrev pub flag_if_set : Bool → Value
+flag_if_set on = tree_if_any (if on then Some (boolean true) else None)
+
 -- a key with what is there
 abbrev pub Field : Type 0
 Field = List ℕ × Value

@@ -3,25 +3,15 @@
 //!
 //! Specification, "InitializeResponse" and "Capabilities".
 ghost use Rattle.std.specs.Prelude.{◌≡◌, IfOk, OnOk};
-ghost use Rattle.dap_body.specs.PrivateText.{wrote, wrote_row, HasNoFloats, HasSoundFields, IsSoundField, IsSoundRow, PutsFlags};
-ghost use Rattle.dap_body.specs.ResponseBody.{set_flag, flag_fields, initialize_row};
+ghost use Rattle.dap_body.specs.PrivateText.{wrote_row, HasNoFloats, HasSoundFields, IsSoundRow, PutsFlags};
+ghost use Rattle.dap_body.specs.ResponseBody.{flag_fields, initialize_row};
 
 use crate::beside::{fit_members, put_before, put_left, put_none};
-use crate::row::put_flag;
+use crate::row::put_flag_if_set;
 use dap_command::{Capabilities, Gate};
 use dap_json::{Member, More};
 use json::Writer;
 use std::alloc::AllocError;
-
-/// A flag that is set; nothing where it is not.
-#[tactic(auto, unfolding(crate::specs::PrivateText::wrote))]
-fn put_set_flag(out: &mut Writer, key: &str, on: bool) -> Result<(), AllocError>
-    ensures adds { OnOk result (out.new.tokens ≡ wrote (key.now, set_flag on) out.old.tokens) }
-    ensures before { out.new.before ≡ out.old.before }
-    ensures sound { IsSoundField (key.now, set_flag on) }
-{
-    if on { put_flag(out, key, true) } else { Ok(()) }
-}
 
 /// Writes the flags of these gates, each at its place among the members, and gives the members that come behind.
 fn put_flags<'m>(
@@ -39,7 +29,7 @@ fn put_flags<'m>(
     let mut left = members;
     for gate in gates {
         left = put_before(out, gate.flag(), left)?;
-        put_set_flag(out, gate.flag(), capabilities.has(*gate))?;
+        put_flag_if_set(out, gate.flag(), capabilities.has(*gate))?;
     }
     Ok(left)
 }

@@ -3,7 +3,6 @@ ghost use Rattle.std.specs.Prelude.{◌≡◌, ◌++◌, OnOk, OnErr, option_map
 ghost use Rattle.serde_json.specs.Written.{compact_text};
 ghost use Rattle.dap_json.specs.Sound.{IsSound};
 ghost use Rattle.dap_body.specs.Row.{object_of, list_of, text, whole, integer, flag, tree, text_if_any, whole_if_any, tree_if_any};
-ghost use Rattle.dap_body.specs.Failure.{flag_if_set};
 ghost use Rattle.dap_body.specs.PrivateText.{tokens_of, wrote, IsSoundField};
 
 use dap_json::Text;
@@ -96,9 +95,9 @@ pub(crate) fn put_flag(out: &mut Writer, key: &str, on: bool) -> Result<(), Allo
 
 #[tactic(auto, unfolding(crate::specs::PrivateText::wrote))]
 pub(crate) fn put_flag_if_set(out: &mut Writer, key: &str, on: bool) -> Result<(), AllocError>
-    ensures adds { OnOk result (out.new.tokens ≡ wrote (key.now, tree_if_any (flag_if_set on)) out.old.tokens) }
+    ensures adds { OnOk result (out.new.tokens ≡ wrote (key.now, flag_if_set on) out.old.tokens) }
     ensures before { out.new.before ≡ out.old.before }
-    ensures sound { IsSoundField (key.now, tree_if_any (flag_if_set on)) }
+    ensures sound { IsSoundField (key.now, flag_if_set on) }
 {
     if on {
         return put_flag(out, key, true);

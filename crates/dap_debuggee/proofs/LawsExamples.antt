@@ -3,7 +3,7 @@ use Rattle.std.proofs.Common.{◌≡◌, List, ℕ, [], ◌∷◌, codes, replic
 use Rattle.dap_json.specs.declared.more.Member.{Member}
 use Rattle.dap_command.specs.declared.source_key.SourceKey.{SourceKey}
 use Rattle.dap_command.specs.declared.source_key.SourceKey.TheVariants.{Path, Reference}
-use Rattle.dap_debuggee.specs.Shown.{Act, Reply, to_start, to_resume, to_pause, to_poll, to_set_breakpoints, to_assign, to_end, done, refused, happened, category_name, asked_of_act}
+use Rattle.dap_debuggee.specs.Shown.{Act, Reply, to_start, to_resume, to_pause, to_poll, to_set_breakpoints, to_assign, to_end, done, refused, happened, reason_of, without_reason, category_name, asked_of_act}
 use Rattle.dap_debuggee.specs.Laws.{may_answer, state_after, lines_after, keeps_answers, keeps_frames, Stays, with_assigned, children_after, is_code, is_short, is_frame}
 use Rattle.dap_command.specs.SameSource.{is_source}
 use Rattle.dap_debuggee.specs.declared.answers.State.TheVariants.{NotStarted, Running, Stopped, Gone}
@@ -14,6 +14,7 @@ use Rattle.dap_debuggee.specs.declared.answers.Frame.{Frame}
 use Rattle.dap_debuggee.specs.declared.answers.Happening.TheVariants.{Nothing, Output, Stopped as StoppedBy, Continued, Exited}
 use Rattle.dap_debuggee.specs.declared.answers.Variable.{Variable}
 use Rattle.dap_debuggee.specs.declared.answers.Assigned.{Assigned}
+use Rattle.dap_debuggee.specs.declared.explanation.Explanation.{Explanation}
 
 abbrev wrote : Reply
 wrote = happened (Output Stdout (codes "x") [])
@@ -29,14 +30,14 @@ exited = happened (Exited (pos 0))
 
 -- ---- states
 
-start : (may_answer NotStarted to_start done ≡ true) × (may_answer NotStarted to_start refused ≡ true) × (may_answer Running to_start done ≡ false) × (may_answer Stopped to_start done ≡ false) × (may_answer Gone to_start done ≡ false) × (may_answer Gone to_start refused ≡ true)
+start : (may_answer NotStarted to_start done ≡ true) × (may_answer NotStarted to_start (refused None) ≡ true) × (may_answer Running to_start done ≡ false) × (may_answer Stopped to_start done ≡ false) × (may_answer Gone to_start done ≡ false) × (may_answer Gone to_start (refused None) ≡ true)
 start = (refl, refl, refl, refl, refl, refl)
 
-resume : (may_answer Stopped (to_resume Next (pos 1)) done ≡ true) × (may_answer Stopped (to_resume Next (pos 1)) refused ≡ true) × (may_answer Running (to_resume Next (pos 1)) done ≡ false) × (may_answer NotStarted (to_resume Next (pos 1)) done ≡ false) × (may_answer Gone (to_resume Next (pos 1)) refused ≡ true)
+resume : (may_answer Stopped (to_resume Next (pos 1)) done ≡ true) × (may_answer Stopped (to_resume Next (pos 1)) (refused None) ≡ true) × (may_answer Running (to_resume Next (pos 1)) done ≡ false) × (may_answer NotStarted (to_resume Next (pos 1)) done ≡ false) × (may_answer Gone (to_resume Next (pos 1)) (refused None) ≡ true)
 resume = (refl, refl, refl, refl, refl)
 
 -- an act is answered as its kind is
-answers_of_the_kind : (may_answer Running to_poll done ≡ false) × (may_answer Running to_poll refused ≡ false) × (may_answer Running to_pause (happened Nothing) ≡ false) × (may_answer Stopped (to_set_breakpoints (Reference 1) []) refused ≡ false) × (may_answer Gone to_end refused ≡ false)
+answers_of_the_kind : (may_answer Running to_poll done ≡ false) × (may_answer Running to_poll (refused None) ≡ false) × (may_answer Running to_pause (happened Nothing) ≡ false) × (may_answer Stopped (to_set_breakpoints (Reference 1) []) (refused None) ≡ false) × (may_answer Gone to_end (refused None) ≡ false)
 answers_of_the_kind = (refl, refl, refl, refl, refl)
 
 polls_while_running : (may_answer Running to_poll (happened Nothing) ≡ true) × (may_answer Running to_poll wrote ≡ true) × (may_answer Running to_poll stopped ≡ true) × (may_answer Running to_poll exited ≡ true) × (may_answer Running to_poll continued ≡ false)
@@ -48,7 +49,7 @@ polls_while_stopped = (refl, refl, refl, refl, refl)
 polls_of_what_is_not_there : (may_answer NotStarted to_poll (happened Nothing) ≡ true) × (may_answer NotStarted to_poll wrote ≡ false) × (may_answer Gone to_poll (happened Nothing) ≡ true) × (may_answer Gone to_poll exited ≡ false)
 polls_of_what_is_not_there = (refl, refl, refl, refl)
 
-states : (state_after NotStarted to_start done ≡ Running) × (state_after NotStarted to_start refused ≡ NotStarted) × (state_after Stopped (to_resume Continue (pos 1)) done ≡ Running) × (state_after Stopped (to_resume Continue (pos 1)) refused ≡ Stopped) × (state_after Running to_pause done ≡ Running) × (state_after Running to_poll stopped ≡ Stopped) × (state_after Stopped to_poll continued ≡ Running) × (state_after Stopped to_poll exited ≡ Gone) × (state_after Running to_poll wrote ≡ Running) × (state_after NotStarted to_end done ≡ Gone) × (state_after Stopped (to_set_breakpoints (Reference 1) []) done ≡ Stopped)
+states : (state_after NotStarted to_start done ≡ Running) × (state_after NotStarted to_start (refused None) ≡ NotStarted) × (state_after Stopped (to_resume Continue (pos 1)) done ≡ Running) × (state_after Stopped (to_resume Continue (pos 1)) (refused None) ≡ Stopped) × (state_after Running to_pause done ≡ Running) × (state_after Running to_poll stopped ≡ Stopped) × (state_after Stopped to_poll continued ≡ Running) × (state_after Stopped to_poll exited ≡ Gone) × (state_after Running to_poll wrote ≡ Running) × (state_after NotStarted to_end done ≡ Gone) × (state_after Stopped (to_set_breakpoints (Reference 1) []) done ≡ Stopped)
 states = (refl, refl, refl, refl, refl, refl, refl, refl, refl, refl, refl)
 
 -- ---- what an act changes
@@ -62,7 +63,7 @@ lines = (refl, refl, refl, refl)
 keys : (is_source (Path (codes "a")) (Path (codes "a")) ≡ true) × (is_source (Path (codes "a")) (Path (codes "A")) ≡ false) × (is_source (Reference 1) (Reference 1) ≡ true) × (is_source (Reference 1) (Reference 2) ≡ false) × (is_source (Reference 49) (Path (codes "1")) ≡ false)
 keys = (refl, refl, refl, refl, refl)
 
-all_answers_stay : (keeps_answers to_start refused ≡ true) × (keeps_answers (to_resume Next (pos 1)) refused ≡ true) × (keeps_answers to_pause done ≡ true) × (keeps_answers (to_set_breakpoints (Reference 1) []) done ≡ true) × (keeps_answers to_poll wrote ≡ false) × (keeps_answers to_start done ≡ false)
+all_answers_stay : (keeps_answers to_start (refused None) ≡ true) × (keeps_answers (to_resume Next (pos 1)) (refused None) ≡ true) × (keeps_answers to_pause done ≡ true) × (keeps_answers (to_set_breakpoints (Reference 1) []) done ≡ true) × (keeps_answers to_poll wrote ≡ false) × (keeps_answers to_start done ≡ false)
 all_answers_stay = (refl, refl, refl, refl, refl, refl)
 
 frames_stay : (keeps_frames to_poll wrote ≡ true) × (keeps_frames to_poll (happened Nothing) ≡ true) × (keeps_frames to_pause done ≡ true) × (keeps_frames to_poll stopped ≡ false) × (keeps_frames to_poll continued ≡ false) × (keeps_frames to_poll exited ≡ false) × (keeps_frames (to_resume Next (pos 1)) done ≡ false) × (keeps_frames to_end done ≡ false)
@@ -78,12 +79,31 @@ does_not_go x stays = cc (stays x refl)
 memory_of_acts : (asked_of_act (to_resume Next (pos 7)) ≡ remembers.Resume Next (pos 7)) × (asked_of_act (to_set_breakpoints (Reference 1) (2 ∷ [])) ≡ remembers.SetBreakpoints) × (asked_of_act to_end ≡ remembers.End)
 memory_of_acts = (refl, refl, refl)
 
+-- ---- why an act is refused
+
+abbrev why : Option Explanation
+why = Some (record { text = codes "There is no such program."; show_user = true })
+
+-- what may be answered, and what stays, is the same with a reason
+answers_with_a_reason : (may_answer NotStarted to_start (refused why) ≡ true) × (may_answer Gone (to_resume Next (pos 1)) (refused why) ≡ true) × (may_answer Stopped to_pause (refused why) ≡ true) × (may_answer Running to_poll (refused why) ≡ false) × (may_answer Gone to_end (refused why) ≡ false)
+answers_with_a_reason = (refl, refl, refl, refl, refl)
+
+stays_with_a_reason : (state_after NotStarted to_start (refused why) ≡ NotStarted) × (state_after Stopped (to_resume Next (pos 1)) (refused why) ≡ Stopped) × (keeps_answers to_start (refused why) ≡ true) × (keeps_frames (to_resume Next (pos 1)) (refused why) ≡ true)
+stays_with_a_reason = (refl, refl, refl, refl)
+
+-- nobody has to remember it
+reasons_forgotten : (without_reason (refused why) ≡ refused None) × (without_reason (refused None) ≡ refused None) × (without_reason done ≡ done) × (without_reason exited ≡ exited)
+reasons_forgotten = (refl, refl, refl, refl)
+
+reasons_told : (reason_of (refused why) ≡ why) × (reason_of (refused None) ≡ None) × (reason_of done ≡ None) × (reason_of wrote ≡ None)
+reasons_told = (refl, refl, refl, refl)
+
 -- ---- a value that is set
 
 abbrev assign : Act
 assign = to_assign 1 (codes "x") (codes "9")
 
-acts_of_setting : (may_answer Stopped assign done ≡ true) × (may_answer Running assign done ≡ true) × (may_answer Stopped assign refused ≡ false) × (state_after Stopped assign done ≡ Stopped) × (lines_after assign line_1_of_all (Reference 1) ≡ 1 ∷ []) × (keeps_answers assign done ≡ false) × (keeps_frames assign done ≡ false) × (asked_of_act assign ≡ remembers.Assign)
+acts_of_setting : (may_answer Stopped assign done ≡ true) × (may_answer Running assign done ≡ true) × (may_answer Stopped assign (refused None) ≡ false) × (state_after Stopped assign done ≡ Stopped) × (lines_after assign line_1_of_all (Reference 1) ≡ 1 ∷ []) × (keeps_answers assign done ≡ false) × (keeps_frames assign done ≡ false) × (asked_of_act assign ≡ remembers.Assign)
 acts_of_setting = (refl, refl, refl, refl, refl, refl, refl, refl)
 
 abbrev one : List ℕ → List ℕ → Variable

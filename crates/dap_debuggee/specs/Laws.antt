@@ -7,7 +7,7 @@ use Rattle.dap_json.specs.Names.{is_name}
 use Rattle.dap_command.specs.SameSource.{is_source}
 use Rattle.dap_command.specs.Numbers.{is_int}
 use Rattle.dap_command.specs.declared.source_key.SourceKey.{SourceKey}
-use Rattle.dap_debuggee.specs.Shown.{Shown, Act, Reply, asked_of_act, category_name}
+use Rattle.dap_debuggee.specs.Shown.{Shown, Act, Reply, asked_of_act, without_reason, category_name}
 use Rattle.dap_debuggee.specs.Shown.{to_start, to_resume, to_pause, to_poll, to_set_breakpoints, to_assign, to_end, done, refused, happened}
 use Rattle.dap_debuggee.specs.declared.answers.State.{State}
 use Rattle.dap_debuggee.specs.declared.answers.State.TheVariants.{NotStarted, Running, Stopped, Gone}
@@ -15,6 +15,8 @@ use Rattle.dap_debuggee.specs.declared.answers.Happening.{Happening}
 use Rattle.dap_debuggee.specs.declared.answers.Happening.TheVariants as happening
 use Rattle.dap_debuggee.specs.declared.answers.DebuggeeFault.{DebuggeeFault}
 use Rattle.dap_debuggee.specs.declared.answers.DebuggeeFault.TheVariants.{Refused, OutOfMemory}
+use Rattle.dap_debuggee.specs.declared.explanation.ActFault.{ActFault}
+use Rattle.dap_debuggee.specs.declared.explanation.ActFault.TheVariants as act
 use Rattle.dap_debuggee.specs.declared.answers.Frame.{Frame}
 use Rattle.dap_debuggee.specs.declared.answers.Variable.{Variable}
 use Rattle.dap_debuggee.specs.declared.answers.Assigned.{Assigned}
@@ -23,10 +25,10 @@ use Rattle.dap_debuggee.specs.declared.answers.Placement.{Placement}
 -- ---- what a call returned, want of memory aside
 
 -- an act was done or refused, and this holds of its reply
-abbrev pub Replies : Result (Unit {0}) DebuggeeFault → (Reply → Type 0) → Type 0
+abbrev pub Replies : Result (Unit {0}) ActFault → (Reply → Type 0) → Type 0
 Replies (Ok x) After = After done
-Replies (Err Refused) After = After refused
-Replies (Err OutOfMemory) After = Unit {0}
+Replies (Err (act.Refused why)) After = After (refused why)
+Replies (Err act.OutOfMemory) After = Unit {0}
 
 -- a query was answered or refused
 abbrev pub AnswersQuery : {A B : Type 0} → Result A DebuggeeFault → (A → B) → Option B → Type 0
@@ -50,11 +52,11 @@ may_happen _ _ = false
 -- what may be answered to an act in a state: only what is not started is started, and only what stopped goes on
 abbrev pub may_answer : State → Act → Reply → Bool
 may_answer NotStarted to_start done = true
-may_answer state to_start refused = true
+may_answer state to_start (refused why) = true
 may_answer Stopped (to_resume how thread) done = true
-may_answer state (to_resume how thread) refused = true
+may_answer state (to_resume how thread) (refused why) = true
 may_answer state to_pause done = true
-may_answer state to_pause refused = true
+may_answer state to_pause (refused why) = true
 may_answer state to_poll (happened h) = may_happen state h
 may_answer state (to_set_breakpoints source lines) done = true
 may_answer state (to_assign holder name text) done = true
@@ -94,8 +96,8 @@ lines_after _ before key = before key
 
 -- nothing but the count of acts and the last one changes, save the lines
 abbrev pub keeps_answers : Act → Reply → Bool
-keeps_answers to_start refused = true
-keeps_answers (to_resume how thread) refused = true
+keeps_answers to_start (refused why) = true
+keeps_answers (to_resume how thread) (refused why) = true
 keeps_answers to_pause reply = true
 keeps_answers (to_set_breakpoints source lines) reply = true
 keeps_answers _ _ = false
@@ -198,9 +200,9 @@ Follows View = View → Act → Reply → View → Type 0
 abbrev pub Counts : {View : Type 0} → (View → Shown) → Follows View → Type 0
 Counts {View} shown follows = (v w : View) (a : Act) (r : Reply) → follows v a r w → (shown w).acts ≡ ((shown v).acts + 1) % 2 ^ 64
 
--- each act is remembered, with its answer
+-- each act is remembered, with its answer, but not why it was refused
 abbrev pub Remembers : {View : Type 0} → (View → Shown) → Follows View → Type 0
-Remembers {View} shown follows = (v w : View) (a : Act) (r : Reply) → follows v a r w → (shown w).last ≡ Some (record { asked = asked_of_act a; reply = r })
+Remembers {View} shown follows = (v w : View) (a : Act) (r : Reply) → follows v a r w → (shown w).last ≡ Some (record { asked = asked_of_act a; reply = without_reason r })
 
 abbrev pub Answers : {View : Type 0} → (View → Shown) → Follows View → Type 0
 Answers {View} shown follows = (v w : View) (a : Act) (r : Reply) → follows v a r w → IsTrue (may_answer (shown v).state a r)

@@ -1,5 +1,5 @@
 -- What a debuggee shows in a view: where it stands, what it was last asked, and what it answers to each query.
-use Rattle.std.specs.Prelude.{ℕ, ℤ, Bool, List, [], take, drop, nat_lt, codes, Option, None, if◌then◌else◌}
+use Rattle.std.specs.Prelude.{◌≡◌, ℕ, ℤ, Bool, List, [], take, drop, nat_lt, codes, Option, None, if◌then◌else◌}
 use Rattle.dap_command.specs.declared.source_key.SourceKey.{SourceKey}
 use Rattle.dap_debuggee.specs.declared.answers.State.{State}
 use Rattle.dap_debuggee.specs.declared.answers.How.{How}
@@ -42,8 +42,19 @@ pub data Act : Type 0 where
 -- what it answers to an act
 pub data Reply : Type 0 where
   done : Reply
-  refused : Reply
+  -- with why, where that is said
+  refused : Option Explanation → Reply
   happened : Happening → Reply
+
+-- why it refuses, where it does and says so
+abbrev pub reason_of : Reply → Option Explanation
+reason_of (refused why) = why
+reason_of _ = None
+
+-- a reply as it is remembered
+abbrev pub without_reason : Reply → Reply
+without_reason (refused why) = refused None
+without_reason reply = reply
 
 -- an act as it is remembered: with its how and its thread
 abbrev pub asked_of_act : Act → Asked
@@ -55,7 +66,7 @@ asked_of_act (to_set_breakpoints source lines) = SetBreakpoints
 asked_of_act (to_assign holder name text) = Assign
 asked_of_act to_end = End
 
--- the last act, with its answer
+-- the last act, with its answer, but not why it was refused
 pub record Last : Type 0 where
   pub asked : Asked
   pub reply : Reply
@@ -106,6 +117,10 @@ pub record Shown : Type 0 where
   pub verify : SourceKey → List ℕ → Option (List Placement)
   -- why a query is refused, where that is said; no law speaks of it
   pub why : Query → Option Explanation
+
+-- the second shows what the first does, but for where breakpoints are
+abbrev pub SameButPlaces : Shown → Shown → Type 0
+SameButPlaces v w = w ≡ record v { verify = w.verify }
 
 -- a breakpoint that is where it was asked for
 abbrev pub as_asked : Bool → ℕ → Placement

@@ -87,10 +87,10 @@ pub enum Happening {
     },
 }
 
-/// Why a debuggee did not do or tell what it was asked.
+/// Why a debuggee did not tell what it was asked.
 #[derive(Clone, Copy, Debug, PartialEq, Eq)]
 pub enum DebuggeeFault {
-    /// It was asked outside its state, or has no answer.
+    /// It has no answer.
     Refused,
     /// Memory was refused.
     OutOfMemory,
@@ -192,6 +192,21 @@ pub struct Source {
     pub on_disk: bool,
     /// What is to be said beside these, in the members of its object.
     pub more: More,
+}
+
+impl Clone for Placement {
+    ghost use Rattle.std.specs.Prelude.{◌≡◌};
+
+    ghost is_clone = { λ a b. b ≡ a };
+
+    fn clone(&self) -> Result<Placement, AllocError> {
+        Ok(Placement {
+            verified: self.verified,
+            line: self.line,
+            message: self.message.clone()?,
+            more: self.more.clone()?,
+        })
+    }
 }
 
 impl Placement {

@@ -9,7 +9,7 @@ use crate::answers::{
     Assigned, DebuggeeFault, Evaluation, Frame, Happening, How, Placement, Scope, Source, Thread,
     Variable,
 };
-use crate::explanation::{Explanation, RefusedQuery};
+use crate::explanation::{ActFault, Explanation, RefusedQuery};
 use dap_command::SourceKey;
 use dap_json::Text;
 use std::alloc::{AllocError, Global};
@@ -17,7 +17,7 @@ use std::alloc::{AllocError, Global};
 /// A debugger with what it debugs.
 ///
 /// There are acts, by a `&mut`, which may change what is shown, and queries, by a `&`, which tell it. Each act is counted and
-/// remembered, a refused one too, so keep a number and the last act with its answer. After want of memory nothing is said of
+/// remembered, a refused one too, so keep a number and the last act with its answer, but not why you refused it. After want of memory nothing is said of
 /// the view, but where `assign` says so: a call that is refused memory may leave anything.
 ///
 /// How a program runs, how far a step goes and at which lines it stops, is yours: no law speaks of it. The laws say when what
@@ -36,20 +36,20 @@ pub trait Debuggee {
     ghost follows: { Self → Act → Reply → Self → Type 0 };
 
     /// Starts what is not started, or refuses. Asked once the client has sent `launch` or `attach`, and its breakpoints; a
-    /// refusal fails that request, and another one may ask again. What is started runs: a stop at its first line is told by
-    /// a poll. Refuse where it runs, is stopped or is gone.
-    fn start(&mut self, alloc: Global) -> Result<(), DebuggeeFault>
+    /// refusal fails that request, and another one may ask again: say why, such as that there is no such program. What is
+    /// started runs: a stop at its first line is told by a poll. Refuse where it runs, is stopped or is gone.
+    fn start(&mut self, alloc: Global) -> Result<(), ActFault>
         ensures { Replies result (λ reply. follows self.old to_start reply self.new) };
 
     /// Lets what is stopped go on, or refuses. `thread` is the one that was asked for; all threads run. Note how far it is to
     /// go, and return: the polls run it, and tell where it stopped. Refuse the ways that you do not have, such as back; refuse
     /// all where it is not stopped.
-    fn resume(&mut self, alloc: Global, how: How, thread: i64) -> Result<(), DebuggeeFault>
+    fn resume(&mut self, alloc: Global, how: How, thread: i64) -> Result<(), ActFault>
         ensures { Replies result (λ reply. follows self.old (to_resume how thread) reply self.new) };
 
     /// Asks what runs to stop, or refuses. Note it, and return: nothing that is shown may change. That it has stopped is told
     /// by a poll.
-    fn pause(&mut self, alloc: Global) -> Result<(), DebuggeeFault>
+    fn pause(&mut self, alloc: Global) -> Result<(), ActFault>
         ensures { Replies result (λ reply. follows self.old to_pause reply self.new) };
 
     /// What happened next, without waiting: run a bounded while, and tell one thing. `Nothing` says that there is no news by
@@ -180,7 +180,7 @@ pub trait Debuggee {
     /// Each act is counted, modulo 18446744073709551616.
     ghost counts: { Counts shown follows };
 
-    /// Each act is remembered, with its answer.
+    /// Each act is remembered, with its answer, but not why it was refused.
     ghost remembers: { Remembers shown follows };
 
     /// Only what may be answered in a state is answered.

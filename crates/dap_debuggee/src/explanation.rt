@@ -1,4 +1,4 @@
-//! Why a debuggee refused a query: what was asked, and what it says of it.
+//! Why a debuggee refused: a query with what was asked, or an act, and what it says of it.
 //!
 //! Specification, "ErrorResponse" and "Message". That a debuggee need not say why, and may say it in words of its own, is
 //! this profile's choice.
@@ -43,7 +43,7 @@ pub enum RefusedQuery<'q> {
     },
 }
 
-/// Why a query was refused.
+/// Why a query or an act was refused.
 #[derive(Debug, Drop)]
 pub struct Explanation {
     /// In words. It is left out where the response would be larger than a body may be.
@@ -62,5 +62,25 @@ impl Clone for Explanation {
             text: self.text.clone()?,
             show_user: self.show_user,
         })
+    }
+}
+
+/// Why a debuggee did not do what it was asked.
+#[derive(Debug, Drop)]
+pub enum ActFault {
+    /// It does not do it, or not in its state; with why, which the client is told with the failure.
+    Refused(Option<Explanation>),
+    /// Memory was refused.
+    OutOfMemory,
+}
+
+impl From<AllocError> for ActFault {
+    ghost use Rattle.std.specs.Prelude.{◌≡◌};
+    ghost use Rattle.dap_debuggee.specs.declared.explanation.ActFault.TheVariants.{OutOfMemory};
+
+    ghost from_gives = { λ _ e. e ≡ OutOfMemory };
+
+    fn from(_e: AllocError) -> ActFault {
+        ActFault::OutOfMemory
     }
 }

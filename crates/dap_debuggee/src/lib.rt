@@ -16,5 +16,5 @@ pub use answers::{
     Source, State, Thread, Variable,
 };
 pub use debuggee::Debuggee;
-pub use explanation::{Explanation, RefusedQuery};
+pub use explanation::{ActFault, Explanation, RefusedQuery};
 pub use mail::HasMail;

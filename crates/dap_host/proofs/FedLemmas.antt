@@ -24,7 +24,8 @@ use Rattle.dap_plan.specs.Polling.{after_happening, after_poll_reply, has_debugg
 use Rattle.dap_plan.specs.Session.{Session}
 use Rattle.dap_plan.specs.SessionState.{SessionState}
 use Rattle.dap_plan.specs.declared.fault.AdapterFault.{AdapterFault}
-use Rattle.dap_host.specs.Fed.{AnswersFed, TellsFed, over_mail}
+use Rattle.dap_live.specs.declared.mail.Ahead.{Ahead}
+use Rattle.dap_host.specs.Fed.{AnswersFed, TellsFed, mail_ahead, over_mail}
 
 -- ---- mail
 
@@ -48,7 +49,7 @@ unheard_over (coming.Sources more) mail v = refl
 
 -- in its mail nothing is left but why what came is dropped
 abbrev left_of : Option Coming → LiveState → MailState
-left_of o v = record { coming = None; acts = v.mail.acts; dropped = why_not_heard o v }
+left_of o v = record v.mail { coming = None; dropped = why_not_heard o v }
 
 asked_so : (b : Bool) (s : Session) (v w : LiveState) (made : Made) → b ≡ true → CarriedOut FollowsLive (if b then asking to_poll (after_poll_reply s) else at_once (no_change s)) v made w
     → (made ≡ after_happening (told_by v.mail.coming v) s) × (w.mail ≡ left_of v.mail.coming v)
@@ -59,7 +60,7 @@ quiet_step : (b : Bool) (s : Session) (v w : LiveState) (made : Made) → Carrie
 unfolding after_happening
 quiet_step true s v w made c none =
     let a = asked_so true s v w made refl c in
-    (a.0 ∙ ap (λ (m : MailState). after_happening (told_by m.coming v) s) none, a.1 ∙ ap (λ (m : MailState). let left : MailState = record { coming = None; acts = m.acts; dropped = why_not_heard m.coming v } in left) none)
+    (a.0 ∙ ap (λ (m : MailState). after_happening (told_by m.coming v) s) none, a.1 ∙ ap (λ (m : MailState). let left : MailState = record m { coming = None; dropped = why_not_heard m.coming v } in left) none)
 quiet_step false s v w made c none = (c.0, ap (λ (u : LiveState). u.mail) c.1 ∙ none)
 
 -- where nothing came, polls tell nothing, leave nothing, and change nothing of the session
@@ -136,19 +137,22 @@ stops_from old p new c none bytes fault is unbroken empty stops =
     subst (λ (z : List ℕ). StopsAfter shown_live FollowsLive (over_mail (with_coming c no_mail) old) (to_poll_next 0) [] z fault new bytes) empty
     (subst (λ (a : AdapterState LiveState). StopsAfter shown_live FollowsLive a (to_poll_next 0) [] none fault new bytes) is (stops (ap (λ (a : AdapterState LiveState). a.fault) is ∙ unbroken)))
 
-pub answers_from : (old there : AdapterState LiveState) (body none bytes : List ℕ) (ended : Bool) → none ≡ [] → AnswersPiece shown_live FollowsLive old (frame_of body) none there bytes ended
-    → (new : AdapterState LiveState) (acts : List HostAct) → acts ≡ there.debuggee.mail.acts → new ≡ over_mail no_mail there → AnswersFed old body bytes acts new
-answers_from old there body none bytes ended empty answers new acts are fetched = record {
+pub answers_from : (old p there : AdapterState LiveState) (ahead : Ahead) (body none bytes : List ℕ) (ended : Bool) → p ≡ over_mail (mail_ahead ahead) old → none ≡ [] → AnswersPiece shown_live FollowsLive p (frame_of body) none there bytes ended
+    → (new : AdapterState LiveState) (acts : List HostAct) → acts ≡ there.debuggee.mail.acts → new ≡ over_mail no_mail there → AnswersFed old ahead body bytes acts new
+answers_from old p there ahead body none bytes ended is empty answers new acts are fetched = record {
   there = there;
   ended = ended;
-  answers = subst (λ (z : List ℕ). AnswersPiece shown_live FollowsLive old (frame_of body) z there bytes ended) empty answers;
+  answers = subst (λ (a : AdapterState LiveState). AnswersPiece shown_live FollowsLive a (frame_of body) [] there bytes ended) is
+      (subst (λ (z : List ℕ). AnswersPiece shown_live FollowsLive p (frame_of body) z there bytes ended) empty answers);
   acts_are = are;
   fetched = fetched;
 }
 
-pub breaks_from : (old new : AdapterState LiveState) (body none bytes : List ℕ) (fault : AdapterFault) → old.fault ≡ None → none ≡ [] → (old.fault ≡ None → StopsAfter shown_live FollowsLive old to_take (frame_of body) none fault new bytes)
-    → StopsAfter shown_live FollowsLive old to_take (frame_of body) [] fault new bytes
-breaks_from old new body none bytes fault unbroken empty stops = subst (λ (z : List ℕ). StopsAfter shown_live FollowsLive old to_take (frame_of body) z fault new bytes) empty (stops unbroken)
+pub breaks_from : (old p new : AdapterState LiveState) (ahead : Ahead) (body none bytes : List ℕ) (fault : AdapterFault) → p ≡ over_mail (mail_ahead ahead) old → old.fault ≡ None → none ≡ []
+    → (p.fault ≡ None → StopsAfter shown_live FollowsLive p to_take (frame_of body) none fault new bytes) → StopsAfter shown_live FollowsLive (over_mail (mail_ahead ahead) old) to_take (frame_of body) [] fault new bytes
+breaks_from old p new ahead body none bytes fault is unbroken empty stops =
+    subst (λ (z : List ℕ). StopsAfter shown_live FollowsLive (over_mail (mail_ahead ahead) old) to_take (frame_of body) z fault new bytes) empty
+    (subst (λ (a : AdapterState LiveState). StopsAfter shown_live FollowsLive a to_take (frame_of body) none fault new bytes) is (stops (ap (λ (a : AdapterState LiveState). a.fault) is ∙ unbroken)))
 
 pub ok_by_two : {A E : Type 0} {P S : A → Type 0} {Q : Type 0} (r : Result A E) → ((x : A) → P x → Q → S x) → IfOk r P → OnOk r Q → IfOk r S
 ok_by_two (Ok x) f p q = f x p q

@@ -12,7 +12,7 @@ use Rattle.dap_frame.specs.Settings.{Settings, AreInRange}
 use Rattle.dap_frame.specs.Written.{frame_of}
 use Rattle.dap_live.specs.LiveLaws.{FollowsLive}
 use Rattle.dap_live.specs.LiveShown.{LiveState, shown_live, fresh_live}
-use Rattle.dap_live.specs.MailState.{no_mail, with_coming}
+use Rattle.dap_live.specs.MailState.{MailState, nothing_ahead, no_mail, with_coming}
 use Rattle.dap_envelope.specs.declared.message.Message.{Message}
 use Rattle.dap_outbox.specs.Draft.{bytes_of}
 use Rattle.dap_recording.specs.declared.recording.RecordedSource.{RecordedSource}
@@ -20,8 +20,8 @@ use Rattle.dap_plan.specs.Polling.{has_debuggee}
 use Rattle.dap_command.specs.declared.offer.Offer.{Offer}
 use Rattle.dap_plan.specs.Session.{Session, opened_session}
 use Rattle.dap_plan.specs.declared.fault.AdapterFault.{AdapterFault}
-use Rattle.dap_host.specs.Fed.{AnswersFed, TellsFed, over_mail}
-use Rattle.dap_host.specs.Hearing.{HostState, sources_there, IsGoing, SameButAdapter, TakesMessage, AnswersMessage, TellsIt, StopsMessage, StopsTelling, RefusesTold, bad_moment, dropped, IsUnheard, drop_of}
+use Rattle.dap_host.specs.Fed.{AnswersFed, TellsFed, mail_ahead, over_mail}
+use Rattle.dap_host.specs.Hearing.{HostState, with_ahead, sources_there, IsGoing, SameButAdapter, TakesMessage, AnswersMessage, TellsIt, StopsMessage, StopsTelling, RefusesTold, bad_moment, dropped, IsUnheard, drop_of}
 use Rattle.dap_line.specs.Written.{message_lines, act_lines}
 use Rattle.dap_live.specs.declared.mail.Coming.{Coming}
 use Rattle.dap_live.specs.declared.mail.Dropped.{Dropped as Drop}
@@ -69,16 +69,20 @@ fresh_going h limits offers sources stands session debuggee same range laws =
     let at = laws.fresh h.adapter (subst AreInRange (sym are) range) stands in
     record { used = at.used; history = at.history; stands = at.stands; none_held = at.none_held; limits_are = are ∙ sym same; fetched = ap (λ (v : LiveState). v.mail) debuggee }
 
+-- with other mail
+given_between : (mail : MailState) (h : HostState) → Laws → IsGoing h → IsBetween (over_mail mail h.adapter)
+given_between mail h laws going = laws.exchanged h.adapter (over_mail mail h.adapter) (between h going) (record { shows_the_same = refl; all_else = refl })
+
 -- ---- a message is answered, or the adapter is closed by it
 
 -- the body is the one message that came
-one_came : (h : HostState) (there : AdapterState LiveState) (body bytes : List ℕ) (ended : Bool) (going : IsGoing h) → AreInRange h.limits → Laws → TakesMessage h body → (a : AnswersPiece shown_live FollowsLive h.adapter (frame_of body) [] there bytes ended) → (a.runs_on.bodies ≡ body ∷ []) × IsBetween there
+one_came : (h : HostState) (there : AdapterState LiveState) (body bytes : List ℕ) (ended : Bool) (going : IsGoing h) → AreInRange h.limits → Laws → TakesMessage h body → (a : AnswersPiece shown_live FollowsLive (over_mail (mail_ahead h.ahead) h.adapter) (frame_of body) [] there bytes ended) → (a.runs_on.bodies ≡ body ∷ []) × IsBetween there
 one_came h there body bytes ended going range laws takes a =
     let fits : length body ≤ h.adapter.session.limits.body = subst (λ (z : Settings). length body ≤ z.body) (sym going.limits_are) takes.fits in
-    laws.answered h.adapter there body [] bytes ended (between h going) (in_range h going range) fits takes.going a
+    laws.answered (over_mail (mail_ahead h.ahead) h.adapter) there body [] bytes ended (given_between (mail_ahead h.ahead) h laws going) (in_range h going range) fits takes.going a
 
-pub answered : (h k : HostState) (body bytes before after : List ℕ) (acts : List HostAct) → IsGoing h → AreInRange h.limits → Laws → TakesMessage h body → AnswersFed h.adapter body bytes acts k.adapter
-    → ((outs : List Message) → bytes ≡ bytes_of outs → after ≡ before ++ (message_lines outs ++ act_lines acts)) → SameButAdapter h k → AnswersMessage h body before after k
+pub answered : (h k : HostState) (body bytes before after : List ℕ) (acts : List HostAct) → IsGoing h → AreInRange h.limits → Laws → TakesMessage h body → AnswersFed h.adapter h.ahead body bytes acts k.adapter
+    → ((outs : List Message) → bytes ≡ bytes_of outs → after ≡ before ++ (message_lines outs ++ act_lines acts)) → SameButAdapter (with_ahead nothing_ahead h) k → AnswersMessage h body before after k
 answered h k body bytes before after acts going range laws takes fed hands same =
     record {
       bytes = bytes;
@@ -89,11 +93,11 @@ answered h k body bytes before after acts going range laws takes fed hands same 
       same = same;
     }
 
-pub goes_on : (h k : HostState) (body bytes : List ℕ) (acts : List HostAct) → IsGoing h → AreInRange h.limits → Laws → TakesMessage h body → AnswersFed h.adapter body bytes acts k.adapter → k.limits ≡ h.limits → IsGoing k
+pub goes_on : (h k : HostState) (body bytes : List ℕ) (acts : List HostAct) → IsGoing h → AreInRange h.limits → Laws → TakesMessage h body → AnswersFed h.adapter h.ahead body bytes acts k.adapter → k.limits ≡ h.limits → IsGoing k
 goes_on h k body bytes acts going range laws takes fed limits =
     goes_fetched h k fed.there laws going fed.answers.runs_on.limits limits (one_came h fed.there body bytes fed.ended going range laws takes fed.answers).1 fed.fetched
 
-pub stopped : (h k : HostState) (body bytes before after : List ℕ) (fault : AdapterFault) → StopsAfter shown_live FollowsLive h.adapter to_take (frame_of body) [] fault k.adapter bytes
+pub stopped : (h k : HostState) (body bytes before after : List ℕ) (fault : AdapterFault) → StopsAfter shown_live FollowsLive (over_mail (mail_ahead h.ahead) h.adapter) to_take (frame_of body) [] fault k.adapter bytes
     → ((outs : List Message) → bytes ≡ bytes_of outs → after ≡ before ++ message_lines outs) → StopsMessage h body before after k fault
 stopped h k body bytes before after fault stops hands = record { bytes = bytes; stops = stops; lines = hands stops.outs stops.appended }
 
@@ -103,13 +107,9 @@ pub told : (h k : HostState) (c : Coming) (why : Option Drop) (bytes before afte
     → ((outs : List Message) → bytes ≡ bytes_of outs → after ≡ before ++ message_lines outs) → SameButAdapter h k → TellsIt h c why before after k
 told h k c why bytes before after fed hands same = record { bytes = bytes; fed = fed; lines = hands fed.polls.outs fed.polls.appended; same = same }
 
--- the mail that it had is none
-given_between : (h : HostState) (c : Coming) → Laws → IsGoing h → IsBetween (over_mail (with_coming c no_mail) h.adapter)
-given_between h c laws going = laws.exchanged h.adapter (over_mail (with_coming c no_mail) h.adapter) (between h going) (record { shows_the_same = refl; all_else = refl })
-
 pub polls_on : (h k : HostState) (c : Coming) (why : Option Drop) (bytes : List ℕ) → IsGoing h → Laws → TellsFed h.adapter c bytes why k.adapter → k.limits ≡ h.limits → IsGoing k
 polls_on h k c why bytes going laws fed limits =
-    goes_fetched h k fed.there laws going fed.polls.runs_on.limits limits (laws.told (over_mail (with_coming c no_mail) h.adapter) fed.there [] bytes (given_between h c laws going) fed.polls) fed.fetched
+    goes_fetched h k fed.there laws going fed.polls.runs_on.limits limits (laws.told (over_mail (with_coming c no_mail) h.adapter) fed.there [] bytes (given_between (with_coming c no_mail) h laws going) fed.polls) fed.fetched
 
 pub stopped_telling : (h k : HostState) (c : Coming) (bytes before after : List ℕ) (fault : AdapterFault) → StopsAfter shown_live FollowsLive (over_mail (with_coming c no_mail) h.adapter) (to_poll 0) [] [] fault k.adapter bytes
     → ((outs : List Message) → bytes ≡ bytes_of outs → after ≡ before ++ message_lines outs) → StopsTelling h c before after k fault
@@ -117,15 +117,15 @@ stopped_telling h k c bytes before after fault stops hands = record { bytes = by
 
 -- ---- the same of a host that is taken apart
 
-pub answered_at : (o h k : HostState) (body bytes before after : List ℕ) (acts : List HostAct) → o ≡ h → IsGoing h → AreInRange o.limits → Laws → TakesMessage h body → AnswersFed o.adapter body bytes acts k.adapter
-    → ((outs : List Message) → bytes ≡ bytes_of outs → after ≡ before ++ (message_lines outs ++ act_lines acts)) → SameButAdapter o k → AnswersMessage h body before after k
+pub answered_at : (o h k : HostState) (body bytes before after : List ℕ) (acts : List HostAct) → o ≡ h → IsGoing h → AreInRange o.limits → Laws → TakesMessage h body → AnswersFed o.adapter o.ahead body bytes acts k.adapter
+    → ((outs : List Message) → bytes ≡ bytes_of outs → after ≡ before ++ (message_lines outs ++ act_lines acts)) → SameButAdapter (with_ahead nothing_ahead o) k → AnswersMessage h body before after k
 answered_at o h k body bytes before after acts e going range laws takes fed hands same =
     subst (λ (z : HostState). AnswersMessage z body before after k) e (answered o k body bytes before after acts (subst IsGoing (sym e) going) range laws (subst (λ (z : HostState). TakesMessage z body) (sym e) takes) fed hands same)
 
-pub goes_on_at : (o h k : HostState) (body bytes : List ℕ) (acts : List HostAct) → o ≡ h → IsGoing h → AreInRange o.limits → Laws → TakesMessage h body → AnswersFed o.adapter body bytes acts k.adapter → k.limits ≡ o.limits → IsGoing k
+pub goes_on_at : (o h k : HostState) (body bytes : List ℕ) (acts : List HostAct) → o ≡ h → IsGoing h → AreInRange o.limits → Laws → TakesMessage h body → AnswersFed o.adapter o.ahead body bytes acts k.adapter → k.limits ≡ o.limits → IsGoing k
 goes_on_at o h k body bytes acts e going range laws takes fed limits = goes_on o k body bytes acts (subst IsGoing (sym e) going) range laws (subst (λ (z : HostState). TakesMessage z body) (sym e) takes) fed limits
 
-pub stopped_at : (o h k : HostState) (body bytes before after : List ℕ) (fault closed : AdapterFault) → o ≡ h → closed ≡ fault → StopsAfter shown_live FollowsLive o.adapter to_take (frame_of body) [] fault k.adapter bytes
+pub stopped_at : (o h k : HostState) (body bytes before after : List ℕ) (fault closed : AdapterFault) → o ≡ h → closed ≡ fault → StopsAfter shown_live FollowsLive (over_mail (mail_ahead o.ahead) o.adapter) to_take (frame_of body) [] fault k.adapter bytes
     → ((outs : List Message) → bytes ≡ bytes_of outs → after ≡ before ++ message_lines outs) → StopsMessage h body before after k closed
 stopped_at o h k body bytes before after fault closed e f stops hands =
     subst (λ (z : AdapterFault). StopsMessage h body before after k z) (sym f) (subst (λ (z : HostState). StopsMessage z body before after k fault) e (stopped o k body bytes before after fault stops hands))

@@ -7,10 +7,11 @@ use Rattle.dap_live.specs.Dropping.{why_unheard}
 use Rattle.dap_live.specs.Hearing.{told_by}
 use Rattle.dap_live.specs.LiveLaws.{FollowsLive}
 use Rattle.dap_live.specs.LiveShown.{LiveState, shown_live, with_mail}
-use Rattle.dap_live.specs.MailState.{MailState, no_mail, with_coming, with_dropped}
+use Rattle.dap_live.specs.MailState.{MailState, no_mail, with_coming, with_dropped, with_ahead}
 use Rattle.dap_live.specs.declared.mail.Coming.{Coming}
 use Rattle.dap_live.specs.declared.mail.Dropped.{Dropped}
 use Rattle.dap_live.specs.declared.mail.HostAct.{HostAct}
+use Rattle.dap_live.specs.declared.mail.Ahead.{Ahead}
 use Rattle.dap_plan.specs.Plan.{written_by}
 use Rattle.dap_plan.specs.Polling.{after_happening}
 
@@ -18,12 +19,16 @@ use Rattle.dap_plan.specs.Polling.{after_happening}
 abbrev pub over_mail : MailState → AdapterState LiveState → AdapterState LiveState
 over_mail mail a = record a { debuggee = with_mail mail a.debuggee }
 
--- A message is answered, and the acts that were asked meanwhile are fetched: in the order in which they were asked, since each
+-- mail with what the host said of the next message, and nothing else
+abbrev pub mail_ahead : Ahead → MailState
+mail_ahead ahead = with_ahead ahead no_mail
+
+-- A message is answered, of which the host said this before, and the acts that were asked meanwhile are fetched: in the order in which they were asked, since each
 -- is put behind all others in the mail (`FollowsLive`), and each once, since then there are none.
-pub record AnswersFed (old : AdapterState LiveState) (body bytes : List ℕ) (acts : List HostAct) (new : AdapterState LiveState) : Type 0 where
+pub record AnswersFed (old : AdapterState LiveState) (ahead : Ahead) (body bytes : List ℕ) (acts : List HostAct) (new : AdapterState LiveState) : Type 0 where
   pub there : AdapterState LiveState
   pub ended : Bool
-  pub answers : AnswersPiece shown_live FollowsLive old (frame_of body) [] there bytes ended
+  pub answers : AnswersPiece shown_live FollowsLive (over_mail (mail_ahead ahead) old) (frame_of body) [] there bytes ended
   pub acts_are : acts ≡ there.debuggee.mail.acts
   pub fetched : new ≡ over_mail no_mail there
 

@@ -20,8 +20,9 @@ use Rattle.dap_live.specs.declared.mail.Coming.{Coming}
 use Rattle.dap_live.specs.declared.mail.Dropped.{Dropped as Drop}
 use Rattle.dap_live.specs.declared.mail.Dropped.TheVariants.{OutOfTurn, TooManySources}
 use Rattle.dap_live.specs.declared.mail.HostAct.{HostAct}
-use Rattle.dap_live.specs.MailState.{no_mail, with_coming}
-use Rattle.dap_host.specs.Fed.{AnswersFed, TellsFed, over_mail}
+use Rattle.dap_live.specs.MailState.{nothing_ahead, no_mail, with_coming}
+use Rattle.dap_live.specs.declared.mail.Ahead.{Ahead}
+use Rattle.dap_host.specs.Fed.{AnswersFed, TellsFed, mail_ahead, over_mail}
 use Rattle.dap_envelope.specs.Refusals.{Bad}
 use Rattle.dap_envelope.specs.declared.message.Message.{Message}
 use Rattle.dap_json.specs.Read.{json_of}
@@ -43,19 +44,23 @@ use Rattle.dap_host.specs.declared.host.Mark.{Mark}
 use Rattle.dap_host.specs.declared.host.Mark.TheVariants as mark
 use Rattle.dap_line.specs.declared.refusal.Refusal.{Refusal}
 use Rattle.dap_line.specs.declared.refusal.Refusal.TheVariants.{TooLong, BadLine, Body, BodyTooLong, Ended, Dropped}
-use Rattle.dap_line.specs.declared.told.Said.TheVariants.{Happened, Target}
+use Rattle.dap_line.specs.declared.told.Said.TheVariants.{Happened, OfNext, Target}
+use Rattle.dap_line.specs.declared.told.Note.{Note}
+use Rattle.dap_line.specs.declared.told.Note.TheVariants.{Places, Refuses as RefusesActs}
 use Rattle.dap_line.specs.declared.told.Told.{Told}
 use Rattle.dap_line.specs.declared.told.Unread.{Unread}
 use Rattle.dap_line.specs.declared.told.Unread.TheVariants.{Refused, OutOfMemory as NoMemory}
 
 -- ---- a host
 
--- the adapter, the limits, how many bytes a line may have, and how many lines came
+-- the adapter, the limits, how many bytes a line may have, how many lines came, and what was said of the next message
 pub record HostState : Type 0 where
   pub adapter : AdapterState LiveState
   pub limits : Settings
   pub longest : ℕ
   pub number : ℕ
+  -- what the host said of the next message
+  pub ahead : Ahead
 
 -- the sources over which moments are read: those of the debuggee
 abbrev pub sources_there : HostState → List RecordedSource
@@ -82,6 +87,7 @@ pub record IsFresh (limits : Settings) (longest : ℕ) (bytes : List ℕ) (h : H
   pub limits_are : h.limits ≡ limits
   pub longest_is : h.longest ≡ longest
   pub number : h.number ≡ 0
+  pub none_ahead : h.ahead ≡ nothing_ahead
 
 -- why a file is refused
 abbrev pub RefusesFile : Settings → List ℕ → FileFault → Type 0
@@ -92,11 +98,15 @@ RefusesFile limits bytes (Offers fault) = RefusesOffers limits (file_offers byte
 abbrev pub counted : HostState → HostState
 counted h = record h { number = saturating_count (h.number + 1) }
 
+abbrev pub with_ahead : Ahead → HostState → HostState
+with_ahead ahead h = record h { ahead = ahead }
+
 -- all but the adapter is the same
 pub record SameButAdapter (old new : HostState) : Type 0 where
   pub limits : new.limits ≡ old.limits
   pub longest : new.longest ≡ old.longest
   pub number : new.number ≡ old.number
+  pub ahead : new.ahead ≡ old.ahead
 
 -- ---- refusals
 
@@ -164,13 +174,14 @@ dropped_line number (Some why) = refusal_line number (Dropped why)
 -- ---- what is done
 
 -- The adapter takes a message, and answers it: the lines of all that it writes for it, and then those of the acts that the debugger has to do.
+-- What the host said of it counts: where breakpoints are that it sets, and that what it asks for is refused. It is of this message alone.
 pub record AnswersMessage (old : HostState) (body before after : List ℕ) (new : HostState) : Type 0 where
   pub bytes : List ℕ
   pub acts : List HostAct
-  pub fed : AnswersFed old.adapter body bytes acts new.adapter
+  pub fed : AnswersFed old.adapter old.ahead body bytes acts new.adapter
   pub taken : fed.answers.runs_on.bodies ≡ body ∷ []
   pub lines : after ≡ before ++ (message_lines fed.answers.outs ++ act_lines acts)
-  pub same : SameButAdapter old new
+  pub same : SameButAdapter (with_ahead nothing_ahead old) new
 
 -- the adapter tells what comes: the lines of all that it writes then
 pub record TellsIt (old : HostState) (c : Coming) (dropped : Option Drop) (before after : List ℕ) (new : HostState) : Type 0 where
@@ -183,6 +194,16 @@ pub record TellsIt (old : HostState) (c : Coming) (dropped : Option Drop) (befor
 pub record AnswersTarget (old : HostState) (number : ℕ) (before after : List ℕ) (new : HostState) : Type 0 where
   pub line : after ≡ before ++ target_line number (target_of old.adapter.session.references number)
   pub same : new ≡ old
+
+-- what is said of the next message is kept, in place of what was said of the same before
+abbrev pub ahead_with : Note → Ahead → Ahead
+ahead_with (Places placed) ahead = record ahead { placed = Some placed }
+ahead_with (RefusesActs why) ahead = record ahead { refusal = Some why }
+
+-- and nothing else has changed
+pub record KeepsNote (old : HostState) (note : Note) (before after : List ℕ) (new : HostState) : Type 0 where
+  pub none : after ≡ before
+  pub kept : new ≡ with_ahead (ahead_with note old.ahead) old
 
 -- these parts are told one after the other, and none is dropped
 pub data TellsInTurn (old : HostState) (before : List ℕ) : List Coming → List ℕ → HostState → Type 0 where
@@ -209,6 +230,7 @@ pub data HearsMessage (old : HostState) (body before after : List ℕ) (new : Ho
 
 pub data HearsHappening (old : HostState) (text before after : List ℕ) (new : HostState) : Type 0 where
   not_heard : (why : Refusal) → RefusesTold old text why → Refuses old why before after new → HearsHappening old text before after new
+  noted : (note : Note) → said_of text ≡ Ok (OfNext note) → KeepsNote old note before after new → HearsHappening old text before after new
   asked : (number : ℕ) → said_of text ≡ Ok (Target number) → AnswersTarget old number before after new → HearsHappening old text before after new
   heard : (coming : Coming) → HearsTold old text coming → TellsOrDrops old (parts_of coming) before after new → HearsHappening old text before after new
 
@@ -247,7 +269,7 @@ HearsLonger old before after new = (line : List ℕ) → old.longest < length li
 
 pub record StopsMessage (old : HostState) (body before after : List ℕ) (new : HostState) (fault : AdapterFault) : Type 0 where
   pub bytes : List ℕ
-  pub stops : StopsAfter shown_live FollowsLive old.adapter to_take (frame_of body) [] fault new.adapter bytes
+  pub stops : StopsAfter shown_live FollowsLive (over_mail (mail_ahead old.ahead) old.adapter) to_take (frame_of body) [] fault new.adapter bytes
   pub lines : after ≡ before ++ message_lines stops.outs
 
 pub record StopsTelling (old : HostState) (c : Coming) (before after : List ℕ) (new : HostState) (fault : AdapterFault) : Type 0 where

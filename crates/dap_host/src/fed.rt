@@ -9,10 +9,10 @@ ghost use Rattle.dap_live.specs.LiveShown.{shown_live};
 ghost use Rattle.dap_live.specs.MailState.{no_mail, with_coming};
 ghost use Rattle.dap_plan.specs.Polling.{has_debuggee};
 ghost use Rattle.dap_plan.specs.declared.fault.AdapterFault.{AdapterFault};
-ghost use Rattle.dap_host.specs.Fed.{AnswersFed, TellsFed, over_mail};
+ghost use Rattle.dap_host.specs.Fed.{AnswersFed, TellsFed, mail_ahead, over_mail};
 
 use dap_adapter::{Adapter, AdapterFault, tell_polls_first};
-use dap_live::{Coming, Dropped, HostAct, Live, Mail};
+use dap_live::{Ahead, Coming, Dropped, HostAct, Live, Mail};
 use std::alloc::Global;
 
 /// Puts what comes into the debuggee's mail, in place of all that is there.
@@ -21,6 +21,15 @@ fn put_coming(alloc: Global, adapter: &mut Adapter<Live>, coming: Coming)
 {
     let mut mail = Mail::new(alloc);
     mail.post(coming);
+    let _ = adapter.exchange(mail);
+}
+
+/// Puts what is said of the next message into the debuggee's mail, in place of all that is there.
+fn put_ahead(alloc: Global, adapter: &mut Adapter<Live>, ahead: Ahead)
+    ensures { adapter.new ≡ over_mail (mail_ahead ahead) adapter.old }
+{
+    let mut mail = Mail::new(alloc);
+    mail.prepare(ahead);
     let _ = adapter.exchange(mail);
 }
 
@@ -46,18 +55,20 @@ fn fetch_dropped(alloc: Global, adapter: &mut Adapter<Live>) -> Option<Dropped>
     mail.take_dropped()
 }
 
-/// Answers a message, and fetches the acts that were asked meanwhile.
+/// Answers a message, of which this was said before, and fetches the acts that were asked meanwhile.
 pub(crate) fn answer_fed(
     alloc: Global,
     adapter: &mut Adapter<Live>,
+    ahead: Ahead,
     body: &[u8],
     bytes: &mut Vec<u8>,
 ) -> Result<Vec<HostAct>, AdapterFault>
     requires empty { bytes.old.items ≡ [] }
     requires open { adapter.old.fault ≡ None }
-    ensures answers { IfOk result (λ acts. AnswersFed adapter.old body.now bytes.new.items acts.items adapter.new) }
-    ensures stops { IfErr result (λ fault. fault ≢ AdapterFault.OutOfMemory → StopsAfter shown_live FollowsLive adapter.old to_take (frame_of body.now) [] fault adapter.new bytes.new.items) }
+    ensures answers { IfOk result (λ acts. AnswersFed adapter.old ahead body.now bytes.new.items acts.items adapter.new) }
+    ensures stops { IfErr result (λ fault. fault ≢ AdapterFault.OutOfMemory → StopsAfter shown_live FollowsLive (over_mail (mail_ahead ahead) adapter.old) to_take (frame_of body.now) [] fault adapter.new bytes.new.items) }
 {
+    put_ahead(alloc, adapter, ahead);
     match adapter.answer_body(alloc, body, bytes) {
         Ok(_ended) => fetch_acts(alloc, adapter),
         Err(fault) => Err(fault),

@@ -6,7 +6,8 @@ ghost use Rattle.dap_outbox.specs.Draft.{bytes_of};
 ghost use Rattle.dap_plan.specs.declared.fault.AdapterFault.{AdapterFault};
 ghost use Rattle.dap_decision.specs.Table.{is_phase};
 ghost use Rattle.dap_decision.specs.declared.phase.Phase.{Phase};
-ghost use Rattle.dap_host.specs.Hearing.{mark_of, state_of, drop_of};
+ghost use Rattle.dap_host.specs.Hearing.{mark_of, state_of, drop_of, with_ahead, ahead_with};
+ghost use Rattle.dap_live.specs.MailState.{nothing_ahead};
 
 use crate::fed::{answer_fed, tell_fed};
 use crate::limits::limits_are_in_range;
@@ -18,10 +19,10 @@ use dap_frame::Limits;
 use dap_json::object_reader::Scratch;
 use dap_json::{More, Text};
 use dap_line::{
-    Refusal, Said, Told, Unread, body_refusal, coming_of, happening_in, push_acts, push_refusal,
+    Note, Refusal, Said, Told, Unread, body_refusal, coming_of, happening_in, push_acts, push_refusal,
     push_target, read_said,
 };
-use dap_live::{Coming, Dropped, HostAct, Live, why_dropped};
+use dap_live::{Ahead, Coming, Dropped, HostAct, Live, why_dropped};
 use dap_recording::{RecordingFault, Sources, Texts, piece_length};
 use std::alloc::{AllocError, Global};
 use std::marker::Model;
@@ -81,6 +82,15 @@ fn behind_mark(line: &[u8]) -> &[u8]
     }
 }
 
+fn nothing_ahead() -> Ahead
+    ensures { result ≡ nothing_ahead }
+{
+    Ahead {
+        placed: None,
+        refusal: None,
+    }
+}
+
 fn is_ended(phase: Phase) -> bool
     ensures { result ≡ is_phase Phase.Ended phase }
 {
@@ -119,6 +129,8 @@ pub struct Host {
     longest: usize,
     /// How many lines came.
     number: u64,
+    /// What was said of the next message.
+    ahead: Ahead,
     /// For what lines say.
     scratch: Scratch,
 }
@@ -132,7 +144,7 @@ impl Model for Host {
 
     ghost coded = { Prim.hlevel (codes, coded_data) };
 
-    ghost view = { λ h. record { adapter = h.adapter; limits = h.limits; longest = h.longest; number = h.number } };
+    ghost view = { λ h. record { adapter = h.adapter; limits = h.limits; longest = h.longest; number = h.number; ahead = h.ahead } };
 }
 
 impl Host {
@@ -189,6 +201,7 @@ impl Host {
             limits,
             longest,
             number: 0,
+            ahead: nothing_ahead(),
             scratch: Scratch::new(alloc),
         })
     }
@@ -332,7 +345,8 @@ impl Host {
         limits_are_in_range(&self.limits);
         bodies_come_one_by_one::<Live>();
         let mut bytes = Vec::new(alloc);
-        match answer_fed(alloc, &mut self.adapter, body, &mut bytes) {
+        let ahead = std::mem::replace(&mut self.ahead, nothing_ahead());
+        match answer_fed(alloc, &mut self.adapter, ahead, body, &mut bytes) {
             Ok(acts) => hand_out(alloc, &bytes, &acts, out),
             Err(fault) => Err(break_off(&bytes, fault, out)),
         }
@@ -366,9 +380,23 @@ impl Host {
     {
         match read_said(alloc, &mut self.scratch, text) {
             Ok(Said::Happened(told)) => self.hear_told(alloc, text, told, out),
+            Ok(Said::OfNext(note)) => {
+                self.keep_note(note);
+                Ok(())
+            }
             Ok(Said::Target(number)) => self.answer_target(alloc, number, out),
             Err(Unread::Refused(why)) => self.refuse(why, out),
             Err(Unread::OutOfMemory) => Err(AdapterFault::OutOfMemory),
+        }
+    }
+
+    /// Keeps what is said of the next message.
+    fn keep_note(&mut self, note: Note)
+        ensures { self.new ≡ with_ahead (ahead_with note self.old.ahead) self.old }
+    {
+        match note {
+            Note::Places(placed) => self.ahead.placed = Some(placed),
+            Note::Refuses(why) => self.ahead.refusal = Some(why),
         }
     }
 

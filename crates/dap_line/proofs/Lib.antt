@@ -1,2 +1,2 @@
 mod AddsLemmas
-pub mod VariableLemmas
+pub mod GatheredLemmas

@@ -1,5 +1,5 @@
 -- What a host tells: which JSON tells what, or the first bad key. The format is this profile's choice; `null` counts as absent.
-use Rattle.std.specs.Prelude.{◌≡◌, ℕ, ℤ, Bool, false, List, [], ◌∷◌, ◌++◌, take, codes, bytes_eq, Vec, Option, Some, None, option_and_then, option_map, unwrap_or, Result, Ok, Err, if◌then◌else◌}
+use Rattle.std.specs.Prelude.{◌≡◌, ℕ, ℤ, zero, suc, Bool, true, false, List, [], ◌∷◌, ◌++◌, take, codes, bytes_eq, Vec, Option, Some, None, option_and_then, option_map, unwrap_or, Result, Ok, Err, if◌then◌else◌}
 use Rattle.serde_json.specs.Data.{Data, Items, no_items, item}
 use Rattle.serde_json.specs.Find.{as_str, as_bool, as_array}
 use Rattle.dap_json.specs.Numbers.{int_of, number_of}
@@ -7,6 +7,10 @@ use Rattle.dap_debuggee.specs.declared.answers.Category.{Category as Place}
 use Rattle.dap_debuggee.specs.declared.answers.Category.TheVariants.{Console, Important, Stdout, Stderr, Telemetry, Other}
 use Rattle.dap_debuggee.specs.declared.answers.Happening.{Happening}
 use Rattle.dap_debuggee.specs.declared.answers.Happening.TheVariants as happening
+use Rattle.dap_command.specs.declared.source_key.SourceKey.{SourceKey}
+use Rattle.dap_command.specs.declared.source_key.SourceKey.TheVariants as source
+use Rattle.dap_debuggee.specs.declared.answers.Placement.{Placement}
+use Rattle.dap_debuggee.specs.declared.explanation.Explanation.{Explanation}
 use Rattle.dap_debuggee.specs.declared.answers.Variable.{Variable}
 use Rattle.dap_json.specs.Field.{tree_at}
 use Rattle.dap_json.specs.More.{more_of}
@@ -17,7 +21,7 @@ use Rattle.dap_recording.specs.Pieces.{piece_length}
 use Rattle.dap_recording.specs.Reading.{exit_of}
 use Rattle.dap_line.specs.Written.{host_key_name}
 use Rattle.dap_line.specs.declared.refusal.HostKey.{HostKey}
-use Rattle.dap_line.specs.declared.refusal.HostKey.TheVariants.{Happened, Category, Output, Reason, Thread, Moment, Code, Text, Value, Later, Holder, Variables, Name, Asked, Number, Sources, More, Why, ShowUser}
+use Rattle.dap_line.specs.declared.refusal.HostKey.TheVariants.{Happened, Category, Output, Reason, Thread, Moment, Code, Text, Value, Later, Holder, Variables, Name, Asked, Number, Sources, More, Why, ShowUser, Placed, Refuses, Path, SourceReference, Breakpoints, Line, Verified, Message as Words}
 use Rattle.dap_line.specs.declared.refusal.Refusal.{Refusal}
 use Rattle.dap_line.specs.declared.refusal.Refusal.TheVariants.{NotJson, BadKey}
 use Rattle.dap_line.specs.declared.told.Kind.{Kind}
@@ -26,6 +30,7 @@ use Rattle.dap_line.specs.declared.told.Told.{Told}
 use Rattle.dap_line.specs.declared.told.Told.TheVariants as told
 use Rattle.dap_line.specs.declared.told.Question.{Question}
 use Rattle.dap_line.specs.declared.told.Question.TheVariants as question
+use Rattle.dap_line.specs.declared.told.Note.TheVariants as note
 use Rattle.dap_line.specs.declared.told.Said.{Said}
 use Rattle.dap_line.specs.declared.told.Said.TheVariants as said
 use Rattle.dap_line.specs.declared.told.Unread.{Unread}
@@ -69,6 +74,13 @@ Gives result read = Returns (λ x. x) SaysKey result read
 abbrev pub GivesList : {A B : Type 0} → Result (Vec A B) Unread → Read (List A) → Type 0
 GivesList result read = Returns (λ xs. xs.items) SaysKey result read
 
+-- each element is read, and put to those before it
+abbrev pub gathered : {A B : Type 0} → (Data → Read A) → (B → A → B) → Items → B → Read B
+gathered of put no_items before = Ok before
+gathered of put (item d ds) before = do
+  x ← of d
+  gathered of put ds (put before x)
+
 -- ---- values
 
 abbrev pub category_named : List ℕ → Place
@@ -99,12 +111,8 @@ variable_of d = do
   said ← optional_at more_of More d
   Ok (record { name = name; value = value; holder = holder; more = unwrap_or said [] })
 
--- each one behind those before it
 abbrev pub each_variable : Items → List Variable → Read (List Variable)
-each_variable no_items before = Ok before
-each_variable (item d ds) before = do
-  variable ← variable_of d
-  each_variable ds (before ++ variable ∷ [])
+each_variable ds before = gathered variable_of (λ variables variable. variables ++ variable ∷ []) ds before
 
 abbrev pub variables_of : Option Items → Read (List Variable)
 variables_of None = Err Variables
@@ -154,13 +162,19 @@ variables_in d t = do
   variables ← variables_of (as_array d)
   Ok (told.Variables holder variables)
 
--- that a text has no value, and why; the client's user need not see it where nothing is said of that
+-- words that say why; the client's user need not see them where nothing is said of that
+unfoldable pub explanation_in : HostKey → Data → Read Explanation
+explanation_in k d = do
+  text ← required_at as_str k d
+  show_user ← optional_or as_bool false ShowUser d
+  Ok (record { text = text; show_user = show_user })
+
+-- that a text has no value, and why
 unfoldable pub no_value_in : Data → Read Told
 no_value_in d = do
   text ← required_at as_str Text d
-  why ← required_at as_str Why d
-  show_user ← optional_or as_bool false ShowUser d
-  Ok (told.NoValue text (record { text = why; show_user = show_user }))
+  why ← explanation_in Why d
+  Ok (told.NoValue text why)
 
 -- why a text has no value counts where it has none
 abbrev pub text_by : Option Data → Option Data → Data → Read Told
@@ -202,7 +216,66 @@ told_in d = do
   kind ← required_at kind_of Happened d
   told_by kind d
 
--- ---- what is said: what happened, or a question
+-- ---- where breakpoints are
+
+-- by its path where it has one, else by its number, counted from 1
+abbrev pub source_named : Option (List ℕ) → ℕ → Read SourceKey
+source_named (Some path) reference = Ok (source.Path path)
+source_named None zero = Err Placed
+source_named None (suc n) = Ok (source.Reference (suc n))
+
+unfoldable pub source_in : Data → Read SourceKey
+source_in d = do
+  path ← optional_at as_str Path d
+  reference ← optional_or number_of 0 SourceReference d
+  source_named path reference
+
+-- a line counts from 1
+abbrev pub above_zero : ℕ → Option ℕ
+above_zero zero = None
+above_zero (suc n) = Some (suc n)
+
+abbrev pub line_of : Data → Option ℕ
+line_of d = option_and_then above_zero (number_of d)
+
+-- the line that is asked for, and where the breakpoint is: there, and verified, where nothing else is said
+unfoldable pub place_of : Data → Read (ℕ × Placement)
+place_of d = do
+  asked ← required_at number_of Asked d
+  line ← optional_or line_of asked Line d
+  verified ← optional_or as_bool true Verified d
+  message ← optional_at as_str Words d
+  said ← optional_at more_of More d
+  Ok (asked, record { verified = verified; line = line; message = message; more = unwrap_or said [] })
+
+-- the lines, and where their breakpoints are
+abbrev pub Places : Type 0
+Places = List ℕ × List Placement
+
+abbrev pub with_place : Places → ℕ × Placement → Places
+with_place places place = (places.0 ++ place.0 ∷ [], places.1 ++ place.1 ∷ [])
+
+abbrev pub each_place : Items → Places → Read Places
+each_place ds before = gathered place_of with_place ds before
+
+abbrev pub places_of : Option Items → Read Places
+places_of None = Err Breakpoints
+places_of (Some ds) = each_place ds ([], [])
+
+unfoldable pub placed_in : Data → Read Said
+placed_in d = do
+  named ← or_bad Placed (value_at Placed d)
+  key ← source_in named
+  places ← places_of (option_and_then as_array (value_at Breakpoints d))
+  Ok (said.OfNext (note.Places (record { source = key; lines = places.0; placements = places.1 })))
+
+-- ---- what is said: what happened, something of the next message, or a question
+
+-- that what the next message asks for is refused, and why
+unfoldable pub refusal_in : Data → Read Said
+refusal_in d = do
+  why ← explanation_in Refuses d
+  Ok (said.OfNext (note.Refuses why))
 
 abbrev pub question_named : List ℕ → Option Question
 question_named name = if bytes_eq name (codes "target") then Some question.Target else None
@@ -221,12 +294,15 @@ happened_in d = do
   told ← told_in d
   Ok (said.Happened told)
 
-abbrev pub said_by : Option Data → Data → Read Said
-said_by None d = happened_in d
-said_by (Some asked) d = asked_in d
+-- a question where there is one, else where breakpoints are, or that something is refused, where that is said, else what happened
+abbrev pub said_by : Option Data → Option Data → Option Data → Data → Read Said
+said_by None None None d = happened_in d
+said_by None None (Some why) d = refusal_in d
+said_by None (Some source) refuses d = placed_in d
+said_by (Some asked) placed refuses d = asked_in d
 
 abbrev pub said_in : Data → Read Said
-said_in d = said_by (value_at Asked d) d
+said_in d = said_by (value_at Asked d) (value_at Placed d) (value_at Refuses d) d
 
 -- ---- a text
 

@@ -20,7 +20,7 @@ use Rattle.dap_tables.specs.declared.reference_kind.ReferenceKind.{ReferenceKind
 use Rattle.dap_tables.specs.declared.reference_kind.ReferenceKind.TheVariants.{Frame, Holder as Locals}
 use Rattle.dap_tables.specs.declared.target.Target.{Target}
 use Rattle.dap_line.specs.declared.refusal.HostKey.{HostKey}
-use Rattle.dap_line.specs.declared.refusal.HostKey.TheVariants.{Happened, Category, Output, Reason, Thread, Moment, Code, Text, Value, Later, Holder, Variables, Name, Asked, Number, Sources, More, Why, ShowUser}
+use Rattle.dap_line.specs.declared.refusal.HostKey.TheVariants.{Happened, Category, Output, Reason, Thread, Moment, Code, Text, Value, Later, Holder, Variables, Name, Asked, Number, Sources, More, Why, ShowUser, Placed, Refuses, Path as PathKey, SourceReference, Breakpoints, Line, Verified, Message as Words}
 use Rattle.dap_line.specs.declared.refusal.Refusal.{Refusal}
 use Rattle.dap_line.specs.declared.refusal.Refusal.TheVariants.{TooLong, BadLine, Body, BodyTooLong, Ended, NotJson, BadKey, BadMoment, BadSources, Dropped}
 
@@ -120,6 +120,14 @@ host_key_name Sources = codes "sources"
 host_key_name More = codes "more"
 host_key_name Why = codes "why"
 host_key_name ShowUser = codes "showUser"
+host_key_name Placed = codes "placed"
+host_key_name Refuses = codes "refuses"
+host_key_name PathKey = codes "path"
+host_key_name SourceReference = codes "sourceReference"
+host_key_name Breakpoints = codes "breakpoints"
+host_key_name Line = codes "line"
+host_key_name Verified = codes "verified"
+host_key_name Words = codes "message"
 
 abbrev pub dropped_name : Drop → List ℕ
 dropped_name OutOfTurn = codes "OutOfTurn"

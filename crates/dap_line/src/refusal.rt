@@ -30,6 +30,14 @@ pub enum HostKey {
     More,
     Why,
     ShowUser,
+    Placed,
+    Refuses,
+    Path,
+    SourceReference,
+    Breakpoints,
+    Line,
+    Verified,
+    Message,
 }
 
 impl HostKey {
@@ -59,6 +67,14 @@ impl HostKey {
             HostKey::More => "more",
             HostKey::Why => "why",
             HostKey::ShowUser => "showUser",
+            HostKey::Placed => "placed",
+            HostKey::Refuses => "refuses",
+            HostKey::Path => "path",
+            HostKey::SourceReference => "sourceReference",
+            HostKey::Breakpoints => "breakpoints",
+            HostKey::Line => "line",
+            HostKey::Verified => "verified",
+            HostKey::Message => "message",
         }
     }
 }

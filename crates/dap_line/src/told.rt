@@ -7,15 +7,17 @@ ghost use Rattle.dap_json.specs.More.{more_of};
 ghost use Rattle.dap_json.specs.Numbers.{number_of};
 ghost use Rattle.dap_recording.specs.Pieces.{piece_length};
 ghost use Rattle.dap_line.specs.Told.{Gives, GivesList, Tells, value_at, required_at, optional_at, category_in as category_in_data, category_named as category_of_name, variable_of, each_variable, variables_of as variables_of_items, variables_in as variables_told, learned_by as learned_of_key, loaded_in as loaded_of};
-ghost use Rattle.dap_line.specs.Told.{output_in as output_of, stop_in as stop_of, continued_in as continued_of, exit_in as exit_of, learned_in as learned_of, no_value_in as no_value_of, text_by as text_of_keys, kind_named as kind_of_name, kind_of, told_in as told_of, happening_of, question_named as question_of_name, question_of, asked_in as asked_of, happened_in as happened_of, said_in as said_of};
+ghost use Rattle.dap_line.specs.Told.{output_in as output_of, stop_in as stop_of, continued_in as continued_of, exit_in as exit_of, learned_in as learned_of, no_value_in as no_value_of, text_by as text_of_keys, kind_named as kind_of_name, kind_of, told_in as told_of, happening_of, question_named as question_of_name, question_of, asked_in as asked_of, happened_in as happened_of, explanation_in as explanation_of, refusal_in as refusal_of, said_in as said_of};
 ghost use Rattle.std.specs.Option.{is_some};
 
+use crate::places::placed_in;
 use crate::reading::read_value;
 use crate::refusal::{HostKey, Refusal};
 use dap_debuggee::{Category, Explanation, Happening, Variable};
 use dap_json::object_reader::Scratch;
 use dap_json::property::Property;
 use dap_json::{List, More, ParseFault, Text, Tree, field};
+use dap_live::Placed;
 use dap_recording::{numbers, piece_length};
 use serde_json::Value;
 use std::alloc::{AllocError, AllocFailed, Global};
@@ -60,10 +62,20 @@ pub enum Told {
     },
 }
 
-/// What a host says: what it tells, or a question.
+/// What a host says of the next message.
+#[derive(Drop)]
+pub enum Note {
+    /// Where breakpoints are that it sets.
+    Places(Placed),
+    /// Why what it asks the debugger to do is refused.
+    Refuses(Explanation),
+}
+
+/// What a host says: what it tells, something of the next message, or a question.
 #[derive(Drop)]
 pub enum Said {
     Happened(Told),
+    OfNext(Note),
     /// What a number of the client names.
     Target(u32),
 }
@@ -107,7 +119,7 @@ impl From<HostKey> for Unread {
 }
 
 /// What stands at a key of an object. `null` counts as absent.
-fn at<'v>(told: &'v Value, key: HostKey) -> Property<'v, HostKey>
+pub(crate) fn at<'v>(told: &'v Value, key: HostKey) -> Property<'v, HostKey>
     ensures key { result.key ≡ key }
     ensures found { lent_data result.found ≡ value_at key (view told.now) }
 {
@@ -157,7 +169,7 @@ fn value_in(alloc: Global, told: &Value) -> Result<Option<Text>, Unread>
 }
 
 /// What is said beside a variable or a value, where something is.
-fn beside_in(alloc: Global, told: &Value) -> Result<Result<Option<More>, HostKey>, AllocError>
+pub(crate) fn beside_in(alloc: Global, told: &Value) -> Result<Result<Option<More>, HostKey>, AllocError>
     ensures { IfOk result (λ said. said ≡ optional_at more_of HostKey.More (view told.now)) }
 {
     let Some(found) = at(told, HostKey::More).found else {
@@ -285,17 +297,22 @@ fn learned_in(alloc: Global, told: &Value) -> Result<Told, Unread>
     })
 }
 
+/// Words that say why, at a key. The client's user need not see them where nothing is said of that.
+#[tactic(auto, unfolding(crate::specs::Told::explanation_in))]
+fn explanation_in(alloc: Global, told: &Value, key: HostKey) -> Result<Explanation, Unread>
+    ensures { Gives result (explanation_of key (view told.now)) }
+{
+    let text = text_at(alloc, told, key)?;
+    let show_user = at(told, HostKey::ShowUser).flag_or(false)?;
+    Ok(Explanation { text, show_user })
+}
+
 #[tactic(auto, unfolding(crate::specs::Told::no_value_in))]
 fn no_value_in(alloc: Global, told: &Value) -> Result<Told, Unread>
     ensures { Gives result (no_value_of (view told.now)) }
 {
     let text = text_at(alloc, told, HostKey::Text)?;
-    let words = text_at(alloc, told, HostKey::Why)?;
-    let show_user = at(told, HostKey::ShowUser).flag_or(false)?;
-    let why = Explanation {
-        text: words,
-        show_user,
-    };
+    let why = explanation_in(alloc, told, HostKey::Why)?;
     Ok(Told::NoValue { text, why })
 }
 
@@ -427,18 +444,35 @@ fn happened_in(alloc: Global, said: &mut Value) -> Result<Said, Unread>
     Ok(Said::Happened(told))
 }
 
-fn is_question(said: &Value) -> bool
-    ensures { result ≡ is_some (value_at HostKey.Asked (view said.now)) }
+/// That what the next message asks for is refused, and why.
+#[tactic(auto, unfolding(crate::specs::Told::refusal_in))]
+fn refusal_in(alloc: Global, said: &Value) -> Result<Said, Unread>
+    ensures { Gives result (refusal_of (view said.now)) }
 {
-    at(said, HostKey::Asked).found.is_some()
+    let why = explanation_in(alloc, said, HostKey::Refuses)?;
+    Ok(Said::OfNext(Note::Refuses(why)))
 }
 
-/// What is said: a question where there is one, else what happened.
+/// Whether something stands at a key.
+fn is_there(said: &Value, key: HostKey) -> bool
+    ensures { result ≡ is_some (value_at key (view said.now)) }
+{
+    at(said, key).found.is_some()
+}
+
+/// What is said: a question where there is one, else what is said of the next message, where breakpoints are or that it is
+/// refused, else what happened.
 fn said_in(alloc: Global, said: &mut Value) -> Result<Said, Unread>
     ensures { Gives result (said_of (view said.old)) }
 {
-    if is_question(said) {
+    if is_there(said, HostKey::Asked) {
         return asked_in(said);
+    }
+    if is_there(said, HostKey::Placed) {
+        return placed_in(alloc, said);
+    }
+    if is_there(said, HostKey::Refuses) {
+        return refusal_in(alloc, said);
     }
     happened_in(alloc, said)
 }

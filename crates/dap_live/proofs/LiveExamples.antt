@@ -24,7 +24,7 @@ use Rattle.dap_live.specs.declared.mail.Coming.{Coming}
 use Rattle.dap_live.specs.declared.mail.Coming.TheVariants as coming
 use Rattle.dap_live.specs.declared.mail.HostAct.TheVariants as act
 use Rattle.dap_live.specs.Hearing.{with_told}
-use Rattle.dap_live.specs.MailState.{MailState, no_mail, with_coming, with_dropped, with_act, with_end}
+use Rattle.dap_live.specs.MailState.{MailState, nothing_ahead, no_mail, with_coming, with_dropped, with_act, with_end}
 use Rattle.dap_live.specs.LiveLaws.{reply_to, here_after, learned_after, sources_after, mail_after}
 use Rattle.dap_debuggee.specs.declared.answers.Placement.{Placement}
 
@@ -149,10 +149,10 @@ at_stop later said = let fresh : LiveState = fresh_live (source ∷ []) in recor
 abbrev at : State → Option Coming → LiveState
 at state said = let stop : LiveState = at_stop true said in record stop { state = state }
 
-starts : (reply_to to_start (at NotStarted None) ≡ done) × (reply_to to_start (at Stopped None) ≡ refused) × (reply_to to_start (at Gone None) ≡ refused)
+starts : (reply_to to_start (at NotStarted None) ≡ done) × (reply_to to_start (at Stopped None) ≡ refused None) × (reply_to to_start (at Gone None) ≡ refused None)
 starts = (refl, refl, refl)
 
-resumes : (reply_to (to_resume Next (pos 1)) (at Stopped None) ≡ done) × (reply_to (to_resume Next (pos 1)) (at Running None) ≡ refused) × (reply_to to_pause (at Running None) ≡ done) × (reply_to to_pause (at Stopped None) ≡ refused)
+resumes : (reply_to (to_resume Next (pos 1)) (at Stopped None) ≡ done) × (reply_to (to_resume Next (pos 1)) (at Running None) ≡ refused None) × (reply_to to_pause (at Running None) ≡ done) × (reply_to to_pause (at Stopped None) ≡ refused None)
 resumes = (refl, refl, refl, refl)
 
 abbrev seven : Coming
@@ -173,17 +173,17 @@ polls = (refl, refl, refl, refl, refl)
 
 -- and leaves why it is dropped; what came is taken, and the acts stay
 abbrev left : Option Dropped → MailState
-left why = record { coming = None; acts = act.Start ∷ []; dropped = why }
+left why = record { coming = None; ahead = nothing_ahead; acts = act.Start ∷ []; dropped = why }
 
 reasons : (mail_after to_poll done (at Stopped (Some halt)) ≡ left (Some OutOfTurn)) × (mail_after to_poll done (at Stopped (Some seven)) ≡ left None) × (mail_after to_poll done (at Stopped None) ≡ left None) × (mail_after to_poll done (at Running (Some (coming.Exited (pos 3)))) ≡ left None) × (mail_after to_poll done (at Stopped (Some (coming.Variables 1 []))) ≡ left (Some Told))
 reasons = (refl, refl, refl, refl, refl)
 
 -- what is said comes in place of what was said, and the reason goes with that
-says : with_coming two (with_dropped (Some Told) (with_coming seven no_mail)) ≡ record { coming = Some two; acts = []; dropped = None }
+says : with_coming two (with_dropped (Some Told) (with_coming seven no_mail)) ≡ record { coming = Some two; ahead = nothing_ahead; acts = []; dropped = None }
 says = refl
 
 -- acts come in the order in which they were asked; a refused one does not
-acts_in_order : ((mail_after (to_resume Next (pos 1)) done (at Stopped None)).acts ≡ act.Start ∷ act.Resume Next (pos 1) ∷ []) × ((mail_after (to_resume Next (pos 1)) refused (at Running None)).acts ≡ act.Start ∷ []) × ((mail_after (to_assign 1 (codes "x") (codes "9")) done (at Stopped None)).acts ≡ act.Start ∷ act.Assign 1 (codes "x") (codes "9") ∷ []) × ((mail_after (to_set_breakpoints (Reference 1) (2 ∷ [])) done (at Gone None)).acts ≡ act.Start ∷ act.SetBreakpoints (Reference 1) (2 ∷ []) ∷ [])
+acts_in_order : ((mail_after (to_resume Next (pos 1)) done (at Stopped None)).acts ≡ act.Start ∷ act.Resume Next (pos 1) ∷ []) × ((mail_after (to_resume Next (pos 1)) (refused None) (at Running None)).acts ≡ act.Start ∷ []) × ((mail_after (to_assign 1 (codes "x") (codes "9")) done (at Stopped None)).acts ≡ act.Start ∷ act.Assign 1 (codes "x") (codes "9") ∷ []) × ((mail_after (to_set_breakpoints (Reference 1) (2 ∷ [])) done (at Gone None)).acts ≡ act.Start ∷ act.SetBreakpoints (Reference 1) (2 ∷ []) ∷ [])
 acts_in_order = (refl, refl, refl, refl)
 
 -- an end right behind an end is that end

@@ -1,4 +1,5 @@
 pub mod MailState
+pub mod Placing
 pub mod LiveShown
 pub mod Dropping
 pub mod Hearing

@@ -1,12 +1,12 @@
 -- What an act answers and leaves of a debuggee that a host feeds, and that each law of every debuggee is kept, whatever the host tells.
 use Rattle.std.proofs.Common.{◌≡◌, ℕ, ℤ, ◌+◌, ◌%◌, ◌^◌, Bool, true, false, nat_eq, bytes_eq, List, [], length, map, Option, Some, None, option_map, IsTrue, if◌then◌else◌, refl, sym, ap, subst, ◌∙◌, true≢false}
-use Rattle.std.proofs.lemmas.Bool.{eqb-true}
+use Rattle.std.proofs.lemmas.Bool.{eqb-true, and_parts}
 use Rattle.std.specs.Prelude.{option_and_then, unwrap_or}
 use Rattle.std.specs.List.{slice_get}
 use Rattle.std.specs.Option.{IsSome}
 use Rattle.dap_json.specs.declared.more.Member.{Member}
 use Rattle.dap_command.specs.declared.source_key.SourceKey.{SourceKey}
-use Rattle.dap_debuggee.specs.Shown.{Act, to_start, to_resume, to_pause, to_poll, to_set_breakpoints, to_assign, to_end, Reply, done, refused, happened, asked_of_act, Last}
+use Rattle.dap_debuggee.specs.Shown.{Act, to_start, to_resume, to_pause, to_poll, to_set_breakpoints, to_assign, to_end, Reply, done, refused, happened, without_reason, asked_of_act, Last}
 use Rattle.dap_debuggee.specs.Laws.{may_answer, may_happen, is_short, state_after, lines_after, keeps_answers, keeps_frames, variable_named, with_assigned, children_after, Stays, Counts, Remembers, Answers, Moves, SetsLines, SetsValues, KeepsAnswers, KeepsFrames, KeepsSources, FramesStay, SourcesStay, SameFrames, SameSources, NoThreads, VerifiesEach, AssignsVariables}
 use Rattle.dap_debuggee.specs.StayLaws.{frames-stay, sources-stay}
 use Rattle.dap_debuggee.specs.declared.answers.State.{State}
@@ -17,6 +17,9 @@ use Rattle.dap_debuggee.specs.declared.answers.Happening.{Happening}
 use Rattle.dap_debuggee.specs.declared.answers.Happening.TheVariants as happening
 use Rattle.dap_debuggee.specs.declared.answers.Variable.{Variable}
 use Rattle.dap_debuggee.specs.declared.answers.Assigned.{Assigned}
+use Rattle.dap_debuggee.specs.declared.answers.Placement.{Placement}
+use Rattle.dap_command.specs.SameSource.{is_source}
+use Rattle.dap_debuggee.specs.declared.explanation.Explanation.{Explanation}
 use Rattle.dap_recording.specs.Sources.{source_shown, text_at, lines_verified}
 use Rattle.dap_recording.specs.SourceLaws.{shown-stay, texts-stay, each-verified}
 use Rattle.dap_recording.specs.Variables.{with_variables, variables_at, first_of, assigned_of}
@@ -32,36 +35,44 @@ use Rattle.dap_live.specs.declared.mail.Dropped.{Dropped}
 use Rattle.dap_live.specs.declared.mail.Dropped.TheVariants.{OutOfTurn, OutOfRange}
 use Rattle.dap_live.specs.declared.mail.HostAct.TheVariants as act
 use Rattle.dap_live.specs.MailState.{MailState, with_act, with_end}
+use Rattle.dap_live.specs.Placing.{is_of, placements_or, placements_in}
+use Rattle.dap_live.specs.declared.mail.Ahead.{Ahead}
+use Rattle.dap_live.specs.declared.mail.Placed.{Placed}
 use Rattle.dap_live.specs.Dropping.{why_dropped, why_not_more, why_untold, why_too_wide, why_unheard, unless_dropped}
 use Rattle.dap_live.specs.Hearing.{happening_by, why_not_heard, told_by, learned_by, with_told, here_with, here_by, sources_with, sources_by}
 use Rattle.dap_live.specs.LiveShown.{LiveState, shown_live, now_shown, threads_in, frames_in, scopes_in, children_in, evaluation_in, told_of, evaluated, assigned_by}
 
 -- ---- what is answered
 
--- it is started where it is not started, goes on where it is stopped, and is asked to stop where it runs
-abbrev pub reply_to_start : State → Reply
-reply_to_start NotStarted = done
-reply_to_start Running = refused
-reply_to_start Stopped = refused
-reply_to_start Gone = refused
+-- done, unless the host refuses
+abbrev pub done_unless : Option Explanation → Reply
+done_unless None = done
+done_unless (Some why) = refused (Some why)
 
-abbrev pub reply_to_resume : State → Reply
-reply_to_resume NotStarted = refused
-reply_to_resume Running = refused
-reply_to_resume Stopped = done
-reply_to_resume Gone = refused
+-- it is started where it is not started, goes on where it is stopped, and is asked to stop where it runs, unless the host refuses
+abbrev pub reply_to_start : Option Explanation → State → Reply
+reply_to_start refusal NotStarted = done_unless refusal
+reply_to_start refusal Running = refused None
+reply_to_start refusal Stopped = refused None
+reply_to_start refusal Gone = refused None
 
-abbrev pub reply_to_pause : State → Reply
-reply_to_pause NotStarted = refused
-reply_to_pause Running = done
-reply_to_pause Stopped = refused
-reply_to_pause Gone = refused
+abbrev pub reply_to_resume : Option Explanation → State → Reply
+reply_to_resume refusal NotStarted = refused None
+reply_to_resume refusal Running = refused None
+reply_to_resume refusal Stopped = done_unless refusal
+reply_to_resume refusal Gone = refused None
+
+abbrev pub reply_to_pause : Option Explanation → State → Reply
+reply_to_pause refusal NotStarted = refused None
+reply_to_pause refusal Running = done_unless refusal
+reply_to_pause refusal Stopped = refused None
+reply_to_pause refusal Gone = refused None
 
 -- a poll gives just what the host said last, or nothing
 abbrev pub reply_to : Act → LiveState → Reply
-reply_to to_start v = reply_to_start v.state
-reply_to (to_resume how thread) v = reply_to_resume v.state
-reply_to to_pause v = reply_to_pause v.state
+reply_to to_start v = reply_to_start v.mail.ahead.refusal v.state
+reply_to (to_resume how thread) v = reply_to_resume v.mail.ahead.refusal v.state
+reply_to to_pause v = reply_to_pause v.mail.ahead.refusal v.state
 reply_to to_poll v = happened (told_by v.mail.coming v)
 reply_to (to_set_breakpoints source lines) v = done
 reply_to (to_assign holder name text) v = done
@@ -105,7 +116,7 @@ abbrev pub mail_after : Act → Reply → LiveState → MailState
 mail_after to_start done v = with_act act.Start v.mail
 mail_after (to_resume how thread) done v = with_act (act.Resume how thread) v.mail
 mail_after to_pause done v = with_act act.Pause v.mail
-mail_after to_poll reply v = record { coming = None; acts = v.mail.acts; dropped = why_not_heard v.mail.coming v }
+mail_after to_poll reply v = record v.mail { coming = None; dropped = why_not_heard v.mail.coming v }
 mail_after (to_set_breakpoints source lines) reply v = with_act (act.SetBreakpoints source lines) v.mail
 mail_after (to_assign holder name text) reply v = with_act (act.Assign holder name (assigned_for holder name text v).value) v.mail
 mail_after to_end reply v = with_end v.mail
@@ -119,7 +130,7 @@ view_after a reply v = record {
   state = state_after v.state a reply;
   set = set_after a v.set;
   acts = (v.acts + 1) % 2 ^ 64;
-  last = Some (record { asked = asked_of_act a; reply = reply });
+  last = Some (record { asked = asked_of_act a; reply = without_reason reply });
   mail = mail_after a reply v;
 }
 
@@ -136,17 +147,17 @@ pub record FollowsLive (v : LiveState) (a : Act) (r : Reply) (w : LiveState) : T
 
 -- ---- states
 
-same_start : (s : State) → state_after s to_start refused ≡ s
-same_start NotStarted = refl
-same_start Running = refl
-same_start Stopped = refl
-same_start Gone = refl
+same_start : (s : State) (why : Option Explanation) → state_after s to_start (refused why) ≡ s
+same_start NotStarted why = refl
+same_start Running why = refl
+same_start Stopped why = refl
+same_start Gone why = refl
 
-same_resume : (s : State) (how : How) (thread : ℤ) → state_after s (to_resume how thread) refused ≡ s
-same_resume NotStarted how thread = refl
-same_resume Running how thread = refl
-same_resume Stopped how thread = refl
-same_resume Gone how thread = refl
+same_resume : (s : State) (how : How) (thread : ℤ) (why : Option Explanation) → state_after s (to_resume how thread) (refused why) ≡ s
+same_resume NotStarted how thread why = refl
+same_resume Running how thread why = refl
+same_resume Stopped how thread why = refl
+same_resume Gone how thread why = refl
 
 same_pause : (s : State) (r : Reply) → state_after s to_pause r ≡ s
 same_pause NotStarted r = refl
@@ -181,14 +192,14 @@ same_assigns Gone holder name text r = refl
 -- what keeps the frames keeps the state
 same_state : (s : State) (a : Act) (r : Reply) → IsTrue (keeps_frames a r) → state_after s a r ≡ s
 same_state s to_start done k = absurd (true≢false (sym k))
-same_state s to_start refused k = same_start s
+same_state s to_start (refused why) k = same_start s why
 same_state s to_start (happened h) k = absurd (true≢false (sym k))
 same_state s (to_resume how thread) done k = absurd (true≢false (sym k))
-same_state s (to_resume how thread) refused k = same_resume s how thread
+same_state s (to_resume how thread) (refused why) k = same_resume s how thread why
 same_state s (to_resume how thread) (happened h) k = absurd (true≢false (sym k))
 same_state s to_pause r k = same_pause s r
 same_state s to_poll done k = absurd (true≢false (sym k))
-same_state s to_poll refused k = absurd (true≢false (sym k))
+same_state s to_poll (refused why) k = absurd (true≢false (sym k))
 same_state s to_poll (happened happening.Nothing) k = same_nothing s
 same_state s to_poll (happened (happening.Output category text more)) k = same_output s category text more
 same_state s to_poll (happened (happening.Stopped reason thread more)) k = absurd (true≢false (sym k))
@@ -280,23 +291,26 @@ may_tell : (o : Option Coming) (v : LiveState) → IsTrue (may_happen v.state (t
 may_tell None v = may_nothing v.state
 may_tell (Some c) v = may_tell_of c v
 
-may_start : (s : State) → IsTrue (may_answer s to_start (reply_to_start s))
-may_start NotStarted = refl
-may_start Running = refl
-may_start Stopped = refl
-may_start Gone = refl
+may_start : (refusal : Option Explanation) (s : State) → IsTrue (may_answer s to_start (reply_to_start refusal s))
+may_start None NotStarted = refl
+may_start (Some why) NotStarted = refl
+may_start refusal Running = refl
+may_start refusal Stopped = refl
+may_start refusal Gone = refl
 
-may_resume : (s : State) (how : How) (thread : ℤ) → IsTrue (may_answer s (to_resume how thread) (reply_to_resume s))
-may_resume NotStarted how thread = refl
-may_resume Running how thread = refl
-may_resume Stopped how thread = refl
-may_resume Gone how thread = refl
+may_resume : (refusal : Option Explanation) (s : State) (how : How) (thread : ℤ) → IsTrue (may_answer s (to_resume how thread) (reply_to_resume refusal s))
+may_resume refusal NotStarted how thread = refl
+may_resume refusal Running how thread = refl
+may_resume None Stopped how thread = refl
+may_resume (Some why) Stopped how thread = refl
+may_resume refusal Gone how thread = refl
 
-may_pause : (s : State) → IsTrue (may_answer s to_pause (reply_to_pause s))
-may_pause NotStarted = refl
-may_pause Running = refl
-may_pause Stopped = refl
-may_pause Gone = refl
+may_pause : (refusal : Option Explanation) (s : State) → IsTrue (may_answer s to_pause (reply_to_pause refusal s))
+may_pause refusal NotStarted = refl
+may_pause None Running = refl
+may_pause (Some why) Running = refl
+may_pause refusal Stopped = refl
+may_pause refusal Gone = refl
 
 may_poll : (s : State) (h : Happening) → IsTrue (may_happen s h) → IsTrue (may_answer s to_poll (happened h))
 may_poll NotStarted h may = may
@@ -323,9 +337,9 @@ may_end Stopped = refl
 may_end Gone = refl
 
 may_reply : (a : Act) (v : LiveState) → IsTrue (may_answer v.state a (reply_to a v))
-may_reply to_start v = may_start v.state
-may_reply (to_resume how thread) v = may_resume v.state how thread
-may_reply to_pause v = may_pause v.state
+may_reply to_start v = may_start v.mail.ahead.refusal v.state
+may_reply (to_resume how thread) v = may_resume v.mail.ahead.refusal v.state how thread
+may_reply to_pause v = may_pause v.mail.ahead.refusal v.state
 may_reply to_poll v = may_poll v.state (told_by v.mail.coming v) (may_tell v.mail.coming v)
 may_reply (to_set_breakpoints source lines) v = may_set v.state source lines
 may_reply (to_assign holder name text) v = may_assign v.state holder name text
@@ -501,6 +515,27 @@ sources_stay_by v w to_end are = list_stays v w are
 pub keeps_sources-live : KeepsSources shown_live FollowsLive
 keeps_sources-live v w a r f = sources_stay_by v w a (ap (λ (u : LiveState). u.sources) f.view)
 
+-- no act takes away what the host said of the next message
+ahead_stays : (a : Act) (r : Reply) (v : LiveState) → (mail_after a r v).ahead ≡ v.mail.ahead
+ahead_stays to_start done v = refl
+ahead_stays to_start (refused why) v = refl
+ahead_stays to_start (happened h) v = refl
+ahead_stays (to_resume how thread) done v = refl
+ahead_stays (to_resume how thread) (refused why) v = refl
+ahead_stays (to_resume how thread) (happened h) v = refl
+ahead_stays to_pause done v = refl
+ahead_stays to_pause (refused why) v = refl
+ahead_stays to_pause (happened h) v = refl
+ahead_stays to_poll r v = refl
+ahead_stays (to_set_breakpoints source lines) r v = refl
+ahead_stays (to_assign holder name text) r v = refl
+ahead_stays to_end r v = refl
+
+same_places : (v w : LiveState) (a : Act) (r : Reply) → FollowsLive v a r w → w.sources ≡ v.sources → (source : SourceKey) (lines : List ℕ) → (shown_live w).verify source lines ≡ (shown_live v).verify source lines
+same_places v w a r f same source lines =
+    let ahead : w.mail.ahead ≡ v.mail.ahead = ap (λ (u : LiveState). u.mail.ahead) f.view ∙ ahead_stays a r v in
+    ap (λ xs. Some (placements_in w.mail.ahead.placed xs source lines)) same ∙ ap (λ (a : Ahead). Some (placements_in a.placed v.sources source lines)) ahead
+
 pub keeps_answers-live : KeepsAnswers shown_live FollowsLive
 keeps_answers-live v w a r f k =
     let same : now_shown w.state w.here ≡ now_shown v.state v.here = same_shown v w a r f k in
@@ -514,14 +549,22 @@ keeps_answers-live v w a r f k =
       assigned = λ holder name text. ap (λ l. assigned_by (told_of l text) name (children_in (now_shown w.state w.here) holder)) known
           ∙ ap (λ o. assigned_by (told_of v.learned text) name (children_in o holder)) same;
       sources = same_sources v w sources;
-      verify = λ source lines. ap (λ xs. Some (lines_verified xs source lines)) sources;
+      verify = same_places v w a r f sources;
     }
 
 pub no_threads-live : NoThreads shown_live
 no_threads-live v = (λ is. ap (λ s. threads_in (now_shown s v.here)) is, λ is. ap (λ s. threads_in (now_shown s v.here)) is)
 
+each_of : (b : Bool) (p : Placed) (source : SourceKey) (lines : List ℕ) (others : List Placement) → is_of source lines p ≡ b → length others ≡ length lines → length (placements_or others (if b then Some p else None)) ≡ length lines
+each_of true p source lines others is each = eqb-true (length p.placements) (length lines) (and_parts (bytes_eq lines p.lines) _ (and_parts (is_source p.source source) _ is).1).1
+each_of false p source lines others is each = each
+
+each-placed : (placed : Option Placed) (sources : List RecordedSource) (source : SourceKey) (lines : List ℕ) → length (placements_in placed sources source lines) ≡ length lines
+each-placed None sources source lines = each-verified sources source lines
+each-placed (Some p) sources source lines = each_of (is_of source lines p) p source lines (lines_verified sources source lines) refl (each-verified sources source lines)
+
 pub verifies_each-live : VerifiesEach shown_live
-verifies_each-live v source lines answers is = sym (ap (λ o. length (unwrap_or o [])) is) ∙ each-verified v.sources source lines
+verifies_each-live v source lines answers is = sym (ap (λ o. length (unwrap_or o [])) is) ∙ each-placed v.mail.ahead.placed v.sources source lines
 
 there_by : (value : Option (List ℕ)) (more : Option (List Member)) (name : List ℕ) (o : Option (List Variable)) → IsSome (option_and_then (λ text. assigned_of name text more o) value) → IsSome (option_and_then (variable_named name) o)
 there_by None more name o h = absurd (cc h)
@@ -602,6 +645,6 @@ sets_values-live v w holder name text r f =
             ∙ ap (assigned_by (told_of v.learned given) called) (children h)
             ∙ same_assigned v.learned text given (nat_eq h holder) (children_in before h) there name called a told (λ e. ap (children_in before) (eqb-true h holder e));
         sources = same_sources v w sources;
-        verify = λ source lines. ap (λ xs. Some (lines_verified xs source lines)) sources;
+        verify = same_places v w (to_assign holder name text) r f sources;
       };
     }

@@ -1,4 +1,4 @@
--- What a debuggee that a host feeds is seen as, and what it shows: what the host told last. Its mail is not shown.
+-- What a debuggee that a host feeds is seen as, and what it shows: what the host told last. Of its mail nothing is shown but where breakpoints are.
 -- This profile's choice.
 use Rattle.std.specs.Prelude.{ℕ, ℤ, ◌≤◌, Bool, ◌&&◌, List, [], ◌∷◌, length, map, Option, Some, None, option_map, option_and_then, unwrap_or, bytes_eq, if◌then◌else◌}
 use Rattle.dap_debuggee.specs.Shown.{Shown, Last, Query, for_assigned, for_value}
@@ -13,13 +13,14 @@ use Rattle.dap_debuggee.specs.declared.answers.Evaluation.{Evaluation}
 use Rattle.dap_debuggee.specs.declared.answers.Assigned.{Assigned}
 use Rattle.dap_debuggee.specs.declared.explanation.Explanation.{Explanation}
 use Rattle.dap_recording.specs.Snapshot.{thread_shown, frames_in as frames_of, scopes_alone, children_alone, is_among}
-use Rattle.dap_recording.specs.Sources.{source_shown, text_at, lines_verified}
+use Rattle.dap_recording.specs.Sources.{source_shown, text_at}
 use Rattle.dap_recording.specs.Variables.{variables_at, first_of, evaluation, assigned_of}
 use Rattle.dap_recording.specs.declared.recording.RecordedSource.{RecordedSource}
 use Rattle.dap_tables.specs.SourceMap.{OfSource, set_of}
 use Rattle.dap_live.specs.declared.held.Learned.{Learned}
 use Rattle.dap_live.specs.declared.here.Here.{Here}
 use Rattle.dap_live.specs.MailState.{MailState, no_mail}
+use Rattle.dap_live.specs.Placing.{placements_in}
 
 -- ---- the view
 
@@ -131,6 +132,6 @@ shown_live v = record {
   assigned = λ holder name text. assigned_by (told_of v.learned text) name (children_in (now_shown v.state v.here) holder);
   sources = map source_shown v.sources;
   content = text_at v.sources;
-  verify = λ source lines. Some (lines_verified v.sources source lines);
+  verify = λ source lines. Some (placements_in v.mail.ahead.placed v.sources source lines);
   why = why_in v.learned;
 }

@@ -4,23 +4,32 @@ use Rattle.std.specs.Prelude.{Bool, true, false, List, [], ◌∷◌, ◌++◌, 
 use Rattle.std.specs.List.{last_or}
 use Rattle.dap_live.specs.declared.mail.Coming.{Coming}
 use Rattle.dap_live.specs.declared.mail.Dropped.{Dropped}
+use Rattle.dap_live.specs.declared.mail.Ahead.{Ahead}
 use Rattle.dap_live.specs.declared.mail.HostAct.{HostAct}
 use Rattle.dap_live.specs.declared.mail.HostAct.TheVariants.{End}
 
 pub record MailState : Type 0 where
   -- what the host said last, until the debuggee is asked what happened
   pub coming : Option Coming
+  -- what the host said of the next message
+  pub ahead : Ahead
   -- what the host has to do, in the order in which it was asked
   pub acts : List HostAct
   -- why what the host said last is dropped
   pub dropped : Option Dropped
 
+abbrev pub nothing_ahead : Ahead
+nothing_ahead = record { placed = None; refusal = None }
+
 abbrev pub no_mail : MailState
-no_mail = record { coming = None; acts = []; dropped = None }
+no_mail = record { coming = None; ahead = nothing_ahead; acts = []; dropped = None }
 
 -- what the host says comes in place of what it said before, and no reason outlives that
 abbrev pub with_coming : Coming → MailState → MailState
 with_coming coming m = record m { coming = Some coming; dropped = None }
+
+abbrev pub with_ahead : Ahead → MailState → MailState
+with_ahead ahead m = record m { ahead = ahead }
 
 abbrev pub without_coming : MailState → MailState
 without_coming m = record m { coming = None }

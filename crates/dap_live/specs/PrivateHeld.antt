@@ -1,5 +1,5 @@
 -- How the code holds the last act and the acts for the host, and what private functions change. Only private clauses and the views of the debuggee and its mail cite this file.
-use Rattle.std.specs.Prelude.{Bool, List, [], ◌∷◌, ◌++◌, Option, if◌then◌else◌}
+use Rattle.std.specs.Prelude.{Bool, List, [], ◌∷◌, ◌++◌, Option, None, if◌then◌else◌}
 use Rattle.dap_debuggee.specs.Shown.{Last, done, refused, happened}
 use Rattle.dap_debuggee.specs.declared.answers.Asked.{Asked}
 use Rattle.dap_debuggee.specs.declared.answers.Asked.TheVariants as ask
@@ -14,7 +14,7 @@ use Rattle.dap_live.specs.LiveShown.{LiveState}
 
 abbrev pub last_of : LiveLast → Last
 last_of (Done asked) = record { asked = asked; reply = done }
-last_of (Refused asked) = record { asked = asked; reply = refused }
+last_of (Refused asked) = record { asked = asked; reply = refused None }
 last_of (Polled h) = record { asked = ask.Poll; reply = happened h }
 
 -- how an act that a host is asked for is remembered

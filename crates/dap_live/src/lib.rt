@@ -11,7 +11,8 @@ mod held;
 mod here;
 mod live;
 mod mail;
+mod placing;
 
 pub use dropping::{each_drop_has_its_reason, why_dropped};
 pub use held::Live;
-pub use mail::{Coming, Dropped, HostAct, Mail};
+pub use mail::{Ahead, Coming, Dropped, HostAct, Mail, Placed};

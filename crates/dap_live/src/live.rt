@@ -12,7 +12,7 @@ use crate::here::Here;
 use crate::mail::{Coming, Dropped, HostAct, Mail};
 use dap_command::SourceKey;
 use dap_debuggee::{
-    Asked, Assigned, Debuggee, DebuggeeFault, Evaluation, Explanation, Frame, Happening, HasMail,
+    ActFault, Asked, Assigned, Debuggee, DebuggeeFault, Evaluation, Explanation, Frame, Happening, HasMail,
     How, Placement, RefusedQuery, Scope, Source, State, Thread, Variable,
 };
 use dap_json::{List, More, Text};
@@ -111,6 +111,8 @@ impl Live {
     ghost use Rattle.dap_debuggee.specs.declared.answers.Happening.{Happening};
     ghost use Rattle.dap_live.specs.declared.mail.Coming.{Coming};
     ghost use Rattle.dap_live.specs.declared.mail.HostAct.{HostAct};
+    ghost use Rattle.dap_debuggee.specs.declared.explanation.ActFault.{ActFault};
+    ghost use Rattle.dap_live.specs.declared.held.LiveLast.{LiveLast};
     ghost use Rattle.dap_live.specs.Dropping.{why_untold};
     ghost use Rattle.dap_live.specs.Hearing.{with_told};
     ghost use Rattle.dap_live.specs.LiveLaws.{FollowsLive, noted, assigned_for, variables_set};
@@ -401,6 +403,15 @@ impl Live {
         }
     }
 
+    /// Refuses an act, and notes it.
+    fn refuse(&mut self, asked: Asked, why: Option<Explanation>) -> ActFault
+        ensures fault { result ≡ ActFault.Refused why }
+        ensures view { self.new ≡ noted (last_of (LiveLast.Refused asked)) self.old }
+    {
+        self.note(LiveLast::Refused(asked));
+        ActFault::Refused(why)
+    }
+
     /// Asks the host for an act that takes no more than that, and notes it.
     fn ask(&mut self, act: HostAct) -> Result<(), AllocError>
         ensures asked { OnOk result (self.new ≡ noted (done_by act) (with_mail (with_act act self.old.mail) self.old)) }
@@ -495,43 +506,47 @@ impl Debuggee for Live {
 
     ghost follows = { FollowsLive };
 
-    fn start(&mut self, _alloc: Global) -> Result<(), DebuggeeFault> {
+    fn start(&mut self, _alloc: Global) -> Result<(), ActFault> {
         match self.state {
-            State::NotStarted => {
-                self.ask(HostAct::Start)?;
-                self.state = State::Running;
-                Ok(())
-            }
-            State::Running | State::Stopped | State::Gone => {
-                self.note(LiveLast::Refused(Asked::Start));
-                Err(DebuggeeFault::Refused)
-            }
+            State::NotStarted => match self.mail.refusal()? {
+                None => {
+                    self.ask(HostAct::Start)?;
+                    self.state = State::Running;
+                    Ok(())
+                }
+                why => Err(self.refuse(Asked::Start, why)),
+            },
+            State::Running | State::Stopped | State::Gone => Err(self.refuse(Asked::Start, None)),
         }
     }
 
-    fn resume(&mut self, _alloc: Global, how: How, thread: i64) -> Result<(), DebuggeeFault> {
+    fn resume(&mut self, _alloc: Global, how: How, thread: i64) -> Result<(), ActFault> {
         match self.state {
-            State::Stopped => {
-                self.ask(HostAct::Resume { how, thread })?;
-                self.state = State::Running;
-                Ok(())
-            }
+            State::Stopped => match self.mail.refusal()? {
+                None => {
+                    self.ask(HostAct::Resume { how, thread })?;
+                    self.state = State::Running;
+                    Ok(())
+                }
+                why => Err(self.refuse(Asked::Resume { how, thread }, why)),
+            },
             State::NotStarted | State::Running | State::Gone => {
-                self.note(LiveLast::Refused(Asked::Resume { how, thread }));
-                Err(DebuggeeFault::Refused)
+                Err(self.refuse(Asked::Resume { how, thread }, None))
             }
         }
     }
 
-    fn pause(&mut self, _alloc: Global) -> Result<(), DebuggeeFault> {
+    fn pause(&mut self, _alloc: Global) -> Result<(), ActFault> {
         match self.state {
-            State::Running => {
-                self.ask(HostAct::Pause)?;
-                Ok(())
-            }
+            State::Running => match self.mail.refusal()? {
+                None => {
+                    self.ask(HostAct::Pause)?;
+                    Ok(())
+                }
+                why => Err(self.refuse(Asked::Pause, why)),
+            },
             State::NotStarted | State::Stopped | State::Gone => {
-                self.note(LiveLast::Refused(Asked::Pause));
-                Err(DebuggeeFault::Refused)
+                Err(self.refuse(Asked::Pause, None))
             }
         }
     }
@@ -671,7 +686,10 @@ impl Debuggee for Live {
         source: &SourceKey,
         lines: &[u32],
     ) -> Result<Vec<Placement>, DebuggeeFault> {
-        Ok(self.sources.verify(alloc, source, lines)?)
+        match self.mail.placed_at(source, lines) {
+            Some(placed) => Ok(placed.copied(alloc)?),
+            None => Ok(self.sources.verify(alloc, source, lines)?),
+        }
     }
 
     fn why(

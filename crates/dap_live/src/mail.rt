@@ -9,7 +9,7 @@ ghost use Rattle.dap_live.specs.MailState.{is_end as is_the_end};
 ghost use Rattle.dap_live.specs.PrivateHeld.{acts_held};
 
 use dap_command::SourceKey;
-use dap_debuggee::{Category, Explanation, How, Variable};
+use dap_debuggee::{Category, Explanation, How, Placement, Variable};
 use dap_json::{List, More, Text};
 use dap_recording::{Snapshot, Sources};
 use std::alloc::{AllocError, Global};
@@ -72,6 +72,23 @@ pub enum Coming {
     Sources(Sources),
 }
 
+/// Where breakpoints are that are to be set at these lines of a source, one for each, in order.
+#[derive(Drop)]
+pub struct Placed {
+    pub source: SourceKey,
+    /// Counted from 1.
+    pub lines: List<u32>,
+    pub placements: List<Placement>,
+}
+
+/// What the host says of a message before it is handed on: it counts as long as it is in the mail.
+#[derive(Drop)]
+pub struct Ahead {
+    pub placed: Option<Placed>,
+    /// A start, a going on and a pause are refused, for this reason.
+    pub refusal: Option<Explanation>,
+}
+
 /// What the host has to do.
 #[derive(Drop)]
 pub enum HostAct {
@@ -111,10 +128,12 @@ pub enum Dropped {
     TooManyHolders,
 }
 
-/// What a host and its debuggee leave for each other. A contract sees what came, the acts in order, and why what came is dropped.
+/// What a host and its debuggee leave for each other. A contract sees what came, what is said of the next message, the acts in
+/// order, and why what came is dropped.
 #[derive(Drop)]
 pub struct Mail {
     coming: Option<Coming>,
+    ahead: Ahead,
     acts: Vec<HostAct>,
     /// Behind them comes the end. It takes no memory to say so.
     is_to_end: bool,
@@ -131,7 +150,7 @@ impl Model for Mail {
 
     ghost coded = { Prim.hlevel (codes, coded_data) };
 
-    ghost view = { λ m. record { coming = m.coming; acts = acts_held m.acts.items m.is_to_end; dropped = m.dropped } };
+    ghost view = { λ m. record { coming = m.coming; ahead = m.ahead; acts = acts_held m.acts.items m.is_to_end; dropped = m.dropped } };
 }
 
 fn is_end(act: &HostAct) -> bool
@@ -165,8 +184,9 @@ fn put_end(acts: &mut Vec<HostAct>, is_to_end: &mut bool) -> Result<(), AllocErr
 }
 
 impl Mail {
-    ghost use Rattle.std.specs.Prelude.{◌≡◌, None, IfOk, OnOk, OnErr};
-    ghost use Rattle.dap_live.specs.MailState.{MailState, no_mail, with_coming, without_coming, with_dropped, without_acts, with_act, with_end};
+    ghost use Rattle.std.specs.Prelude.{◌≡◌, None, IfOk, OnOk, OnErr, option_map};
+    ghost use Rattle.dap_live.specs.MailState.{MailState, no_mail, with_coming, with_ahead, without_coming, with_dropped, without_acts, with_act, with_end};
+    ghost use Rattle.dap_live.specs.Placing.{placed_at};
 
     /// There is nothing.
     pub fn new(alloc: Global) -> Mail
@@ -174,6 +194,10 @@ impl Mail {
     {
         Mail {
             coming: None,
+            ahead: Ahead {
+                placed: None,
+                refusal: None,
+            },
             acts: Vec::new(alloc),
             is_to_end: false,
             dropped: None,
@@ -186,6 +210,34 @@ impl Mail {
     {
         self.coming = Some(coming);
         self.dropped = None;
+    }
+
+    /// Leaves what the host says of the next message, in place of what it said before. Where breakpoints are is what `verify`
+    /// answers of just that source and those lines; where there are more or fewer places than lines, it is of none.
+    pub fn prepare(&mut self, ahead: Ahead)
+        ensures { self.new ≡ with_ahead ahead self.old }
+    {
+        self.ahead = ahead;
+    }
+
+    /// Why the host refuses an act, where it does.
+    pub(crate) fn refusal(&self) -> Result<Option<Explanation>, AllocError>
+        ensures { IfOk result (λ why. why ≡ self.now.ahead.refusal) }
+    {
+        match &self.ahead.refusal {
+            None => Ok(None),
+            Some(why) => Ok(Some(why.clone()?)),
+        }
+    }
+
+    /// Where breakpoints are that are to be set at these lines of a source, where the host said that.
+    pub(crate) fn placed_at(&self, source: &SourceKey, lines: &[u32]) -> Option<&Placed>
+        ensures { option_map (λ p. p.now) result ≡ placed_at self.now.ahead.placed source.now lines.now }
+    {
+        match &self.ahead.placed {
+            Some(placed) if placed.is_of(source, lines) => Some(placed),
+            _ => None,
+        }
     }
 
     /// Takes what the host left, where the debuggee has not been asked since.

@@ -1,5 +1,3 @@
--- How long what is written can become, where its shape is fixed: each failure, each event, and each response whose body is none or one of a fixed shape.
--- Specification, "ErrorResponse", "InitializeResponse", "ContinueResponse", "RunInTerminalResponse" and "Events". The limits, and that 1024 bytes are enough, are this profile's choice.
 -- How long what is written can become, where its shape is fixed: each failure, each event, and each response whose body is none or one of a fixed shape; and how long what is around any other body.
 -- Specification, "ErrorResponse", "ContinueResponse", "RunInTerminalResponse" and "Events". The limits, and that 1024 bytes are enough, are this profile's choice.
 use Rattle.std.specs.Prelude.{ℕ, ◌≤◌, ◌&&◌, ℤ, pos, negsuc, int_le, nat_le, List, [], length, Bool, Option, IsTrue, ⊤, if◌then◌else◌, ◌+◌, Some}

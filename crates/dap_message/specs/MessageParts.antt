@@ -1,5 +1,4 @@
 -- Messages by their parts: failures, responses and events, which bodies have a fixed shape, and each event's name and body.
--- Specification, "ErrorResponse", "InitializeResponse", "ContinueResponse" and "Events".
 -- Specification, "ErrorResponse", "ContinueResponse" and "Events".
 use Rattle.std.specs.Prelude.{ℕ, ℤ, List, [], codes, ◌&&◌, Bool, false, true, Option, Some, None}
 use Rattle.serde_json.specs.Data.{Data}

@@ -14,23 +14,20 @@ use std::alloc::{AllocError, Global};
 const AROUND: usize = 512;
 
 /// What is offered, as a body. It takes no memory.
-pub fn body_of_offer(offer: &Offer) -> Result<Option<Body>, AllocError>
-    ensures { IfOk result (λ body. data_in body ≡ Some (offer_body offer.now)) }
+pub fn body_of_offer(offer: &Offer) -> Result<Body, AllocError>
+    ensures { IfOk result (λ body. data_in (Some body) ≡ Some (offer_body offer.now)) }
 {
-    Ok(Some(Body::Initialize {
+    Ok(Body::Initialize {
         capabilities: offer.gates(),
         more: offer.more.clone()?,
-    }))
+    })
 }
 
 /// Whether a response that offers this has at most so many bytes, whatever its numbers: whether its body leaves 512 of them.
 pub fn offer_fits(alloc: Global, offer: &Offer, most: usize) -> Result<bool, AllocError>
     ensures { IfOk result (λ fits. fits ≡ offer_fits most offer.now) }
 {
-    let body = Body::Initialize {
-        capabilities: offer.gates(),
-        more: offer.more.clone()?,
-    };
+    let body = body_of_offer(offer)?;
     let mut text = Vec::new(alloc);
     append_body(alloc, &mut text, &body)?;
     Ok(most >= AROUND && text.len() <= most - AROUND)

@@ -1,2 +1,3 @@
 pub mod Outboxes
 pub mod SeveralAnswers
+pub mod Explanations

@@ -148,13 +148,3 @@ pub long-within : (most seq : ℕ) (event : AdapterEvent) → event_fits most se
 long-within most seq (output category text more) h = rw h refl
 long-within most seq (stopped reason thread more) h = rw h refl
 long-within most seq _ h = refl
-
-same-name : (event : AdapterEvent) → event_name (without_more event) ≡ event_name event
-same-name (output category text more) = refl
-same-name (stopped reason thread more) = refl
-same-name _ = refl
-
-pub alone-fits : EventsAreShort → (most seq : ℕ) (event : AdapterEvent) → seq ≤ max_seq → max_fixed ≤ most → IsWithin event → event_fits most seq (without_more event) ≡ true
-alone-fits short most seq event small room within =
-    let fits = short seq event small within in
-    rw (same-name event) (le-leb _ _ (omega (arith, fits)))

@@ -1,11 +1,14 @@
 -- Answers to several kept requests on an outbox, one by one.
-use Rattle.std.proofs.Common.{◌≡◌, ℕ, ◌+◌, ◌≤◌, List, [], ◌∷◌, ◌++◌, Bool, true, false, length, refl, ap, ◌∙◌, subst, append_assoc, arith, filter}
+use Rattle.std.proofs.Common.{◌≡◌, ℕ, ◌+◌, ◌≤◌, List, [], ◌∷◌, ◌++◌, Bool, true, false, IsTrue, length, refl, sym, ap, ◌∙◌, subst, append_assoc, arith, filter}
+use Rattle.std.specs.Prelude.{◌&&◌}
+use Rattle.std.specs.List.{list_all}
+use Rattle.std.proofs.lemmas.Bool.{and_parts}
 use Rattle.std.proofs.lemmas.List.{append-nil}
 use Rattle.dap_message.specs.Lengths.{max_fixed}
 use Rattle.dap_tables.specs.declared.entry.Entry.{Entry}
 use Rattle.dap_outbox.specs.Draft.{Answer, Draft, reply}
 use Rattle.dap_outbox.specs.Outbox.{OutboxState, Holds, AppendsDraft}
-use Rattle.dap_outbox.specs.Several.{answer_where, WritesAll}
+use Rattle.dap_outbox.specs.Several.{answer_where, WritesAll, WritesWithin}
 
 pub writes-none : (s : OutboxState) → WritesAll s s []
 writes-none s = record { last = refl; holds = λ limit used before h. rw (append-nil before) h }
@@ -42,3 +45,36 @@ room-passed passes used last requests rest r e is h =
     let all : filter (λ (x : Entry). passes x.seq) requests ≡ filter (λ (x : Entry). passes x.seq) rest = rw e (none-pass passes r rest is) in
     let count = ap length all in
     omega arith
+
+-- ---- with why the debuggee refused
+
+pub within-none : (most : ℕ) (s : OutboxState) → WritesWithin most s s []
+within-none most s = record { last = refl; holds = λ limit used before fits h. rw (append-nil before) h }
+
+within-then : (most : ℕ) (old mid new : OutboxState) (d : Draft) (ds : List Draft) → AppendsDraft most old mid d → WritesWithin most mid new ds → WritesWithin most old new (d ∷ ds)
+within-then most old mid new d ds w v =
+    record {
+      last = v.last ∙ w.last;
+      holds = λ limit used before fits h. subst (λ (xs : List Draft). Holds new limit used xs) (append_assoc before (d ∷ []) ds) (v.holds limit used (before ++ d ∷ []) fits (w.holds limit used before fits h));
+    }
+
+pub goes-explained : (most : ℕ) (passes : ℕ → Bool) (answer : Answer) (requests rest : List Entry) (r : Entry) (old mid final : OutboxState) → requests ≡ r ∷ rest → passes r.seq ≡ true → AppendsDraft most old mid (reply r answer) → WritesWithin most mid final (answer_where passes answer rest) → WritesWithin most old final (answer_where passes answer requests)
+goes-explained most passes answer requests rest r old mid final e is w v = rw (e, some-pass passes r rest is) (within-then most old mid final (reply r answer) (answer_where passes answer rest) w v)
+
+pub goes-unexplained : (most : ℕ) (passes : ℕ → Bool) (answer : Answer) (requests rest : List Entry) (r : Entry) (old final : OutboxState) → requests ≡ r ∷ rest → passes r.seq ≡ false → WritesWithin most old final (answer_where passes answer rest) → WritesWithin most old final (answer_where passes answer requests)
+goes-unexplained most passes answer requests rest r old final e is v = rw (e, none-pass passes r rest is) v
+
+-- a test of each request that passes
+pub all-here : (passes : ℕ → Bool) (test : Entry → Bool) (requests rest : List Entry) (r : Entry) → requests ≡ r ∷ rest → passes r.seq ≡ true → test r ≡ true → list_all test (filter (λ (x : Entry). passes x.seq) rest) ≡ list_all test (filter (λ (x : Entry). passes x.seq) requests)
+all-here passes test requests rest r e is yes = rw (e, some-pass passes r rest is, yes) refl
+
+pub all-not : (passes : ℕ → Bool) (test : Entry → Bool) (requests rest : List Entry) (r : Entry) → requests ≡ r ∷ rest → passes r.seq ≡ true → test r ≡ false → list_all test (filter (λ (x : Entry). passes x.seq) requests) ≡ false
+all-not passes test requests rest r e is no = rw (e, some-pass passes r rest is, no) refl
+
+pub all-passed : (passes : ℕ → Bool) (test : Entry → Bool) (requests rest : List Entry) (r : Entry) → requests ≡ r ∷ rest → passes r.seq ≡ false → list_all test (filter (λ (x : Entry). passes x.seq) rest) ≡ list_all test (filter (λ (x : Entry). passes x.seq) requests)
+all-passed passes test requests rest r e is = rw (e, none-pass passes r rest is) refl
+
+pub all-parts : (passes : ℕ → Bool) (test : Entry → Bool) (requests rest : List Entry) (r : Entry) → requests ≡ r ∷ rest → passes r.seq ≡ true → list_all test (filter (λ (x : Entry). passes x.seq) requests) ≡ true → (test r ≡ true) × (list_all test (filter (λ (x : Entry). passes x.seq) rest) ≡ true)
+all-parts passes test requests rest r e is h =
+    let all : (test r && list_all test (filter (λ (x : Entry). passes x.seq) rest)) ≡ true = sym (rw (e, some-pass passes r rest is) refl) ∙ h in
+    and_parts (test r) (list_all test (filter (λ (x : Entry). passes x.seq) rest)) all

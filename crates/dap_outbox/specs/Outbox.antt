@@ -100,9 +100,13 @@ AnswersIfFits most old new request given fits = IsTrue fits → AppendsDraft mos
 abbrev pub EmitsIfFits : ℕ → OutboxState → OutboxState → Event → Bool → Type 0
 EmitsIfFits most old new event fits = IsTrue fits → AppendsDraft most old new (emit (event_of event))
 
--- the same of a failure with why the debuggee refused
+-- whether a failure with why the debuggee refused, and with this own number, has at most so many bytes
+abbrev pub explanation_fits_as : ℕ → ℕ → Request → Explanation → Bool
+explanation_fits_as seq most request e = nat_le (length (canon (explained_response seq request.seq request.command e.show_user e.text))) most
+
+-- with the number that comes next
 abbrev pub explanation_fits : ℕ → OutboxState → Request → Explanation → Bool
-explanation_fits most old request e = nat_le (length (canon (explained_response (old.numbers.used + 1) request.seq request.command e.show_user e.text))) most
+explanation_fits most old request e = explanation_fits_as (old.numbers.used + 1) most request e
 
 abbrev pub ExplainsIfFits : ℕ → OutboxState → OutboxState → Request → Explanation → Bool → Type 0
 ExplainsIfFits most old new request e fits = IsTrue fits → AppendsDraft most old new (reply request (explained e))

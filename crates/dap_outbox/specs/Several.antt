@@ -1,12 +1,14 @@
 -- Answers to several kept requests.
-use Rattle.std.specs.Prelude.{◌≡◌, ℕ, ◌==◌, not, Bool, ◌+◌, ◌≤◌, List, ◌++◌, length, filter, map, Option, Some, None}
+use Rattle.std.specs.Prelude.{◌≡◌, ℕ, ◌==◌, not, Bool, IsTrue, ◌+◌, ◌≤◌, List, ◌++◌, length, filter, map, Option, Some, None}
+use Rattle.std.specs.List.{list_all}
 use Rattle.dap_body.specs.declared.failure.Failure.{Failure}
 use Rattle.dap_tables.specs.Outstanding.{Kept, entries, is_parked}
 use Rattle.dap_tables.specs.declared.entry.Entry.{Entry}
 use Rattle.dap_outbox.specs.declared.several.Chosen.{Chosen}
 use Rattle.dap_outbox.specs.declared.several.Chosen.TheVariants.{AllBut, Parked}
-use Rattle.dap_outbox.specs.Draft.{Answer, Draft, reply, failure, plain_success}
-use Rattle.dap_outbox.specs.Outbox.{OutboxState, Holds}
+use Rattle.dap_debuggee.specs.declared.explanation.Explanation.{Explanation}
+use Rattle.dap_outbox.specs.Draft.{Answer, Draft, reply, failure, explained, plain_success}
+use Rattle.dap_outbox.specs.Outbox.{OutboxState, Holds, explanation_fits_as}
 
 abbrev pub is_chosen : Chosen → List Kept → ℕ → Bool
 is_chosen (AllBut one) kept seq = not (seq == one)
@@ -29,6 +31,26 @@ pub record WritesAll (old new : OutboxState) (ds : List Draft) : Type 0 where
   pub last : new.numbers.last ≡ old.numbers.last
   pub holds : (limit used : ℕ) (before : List Draft) → Holds old limit used before → Holds new limit used (before ++ ds)
 
+-- these messages more, which a client reads whose bodies may have so many bytes
+pub record WritesWithin (most : ℕ) (old new : OutboxState) (ds : List Draft) : Type 0 where
+  pub last : new.numbers.last ≡ old.numbers.last
+  pub holds : (limit used : ℕ) (before : List Draft) → most ≤ limit → Holds old limit used before → Holds new limit used (before ++ ds)
+
 -- each request that is chosen is answered so, by arrival
 abbrev pub AnswersChosen : OutboxState → OutboxState → Chosen → Option Failure → List Kept → Type 0
 AnswersChosen old new which fault kept = WritesAll old new (answer_where (λ seq. is_chosen which kept seq) (answer_by fault) (entries kept))
+
+-- ---- with why the debuggee refused
+
+-- why fits in the answer to each of these requests, with this own number
+abbrev pub explanations_fit : ℕ → ℕ → Explanation → List Entry → Bool
+explanations_fit seq most told requests = list_all (λ r. explanation_fits_as seq most r told) requests
+
+-- those that are chosen
+abbrev pub chosen_of : Chosen → List Kept → List Entry → List Entry
+chosen_of which kept requests = filter (λ r. is_chosen which kept r.seq) requests
+
+-- if it does, each request that is chosen is answered with why, by arrival
+abbrev pub ExplainsChosen : ℕ → OutboxState → OutboxState → Chosen → Explanation → List Kept → Bool → Type 0
+ExplainsChosen most old new which told kept fits =
+    IsTrue fits → WritesWithin most old new (answer_where (λ seq. is_chosen which kept seq) (explained told) (entries kept))

@@ -12,4 +12,4 @@ mod texts;
 
 pub use answer::{Answer, Event, Fixed};
 pub use outbox::Outbox;
-pub use several::{Chosen, answer_chosen};
+pub use several::{Chosen, answer_chosen, explain_chosen};

@@ -1,17 +1,17 @@
 //! A buffer that is lent, with messages of a step behind what it had before.
 ghost use Rattle.std.specs.Prelude.{◌≡◌, ◌+◌, ◌<◌, ◌≤◌, ◌++◌, length, IfOk, OnOk, OnErr, false};
 ghost use Rattle.dap_outbox.specs.Draft.{ask};
-ghost use Rattle.dap_outbox.specs.Outbox.{event_of, IsReady, AppendsDraft, HoldsNone, AppendsReply, AppendsEvent, EmitsIfFits, answer_fits, AnswersIfFits, explanation_fits, ExplainsIfFits, AppendsAnswer};
+ghost use Rattle.dap_outbox.specs.Outbox.{event_of, IsReady, AppendsDraft, HoldsNone, AppendsReply, AppendsEvent, EmitsIfFits, answer_fits, AnswersIfFits, explanation_fits, explanation_fits_as, ExplainsIfFits, AppendsAnswer};
 ghost use Rattle.dap_json.specs.Field.{max_seq};
 ghost use Rattle.dap_message.specs.Lengths.{max_fixed, IsWithin, event_fits};
 
 use crate::answer::{Answer, Event};
-use crate::texts::{append_reply, append_terminal, append_told};
+use crate::texts::{append_reply, append_terminal, append_told, append_why};
 use dap_body::Body;
 use dap_debuggee::Explanation;
 use dap_frame::frame_from;
 use dap_message::laws::fixed_messages_are_short;
-use dap_message::{append_answer, append_explained};
+use dap_message::append_answer;
 use dap_tables::{Entry, Seq};
 use std::alloc::{AllocError, Global};
 use std::marker::Model;
@@ -178,16 +178,7 @@ impl Outbox {
     {
         let (seq, numbers) = self.next();
         let end = self.buffer.len();
-        let (command, why) = (request.command.as_str(), told.text.as_str());
-        append_explained(
-            alloc,
-            &mut self.buffer,
-            seq,
-            request.seq,
-            command,
-            why,
-            told.show_user,
-        )?;
+        append_why(alloc, &mut self.buffer, seq, request, told)?;
         if self.buffer.len() - end > most {
             self.buffer.truncate(end);
             return Ok(false);
@@ -195,6 +186,25 @@ impl Outbox {
         frame_from(&mut self.buffer, end)?;
         self.numbers = numbers;
         Ok(true)
+    }
+
+    /// Whether the failure with why, and with the own number `last`, has at most so many bytes. Nothing is written.
+    pub(crate) fn can_explain(
+        &mut self,
+        alloc: Global,
+        request: &Entry,
+        told: &Explanation,
+        last: u64,
+        most: usize,
+    ) -> Result<bool, AllocError>
+        ensures fits { IfOk result (λ ok. ok ≡ explanation_fits_as last most request.now told.now) }
+        ensures same { self.new ≡ self.old }
+    {
+        let end = self.buffer.len();
+        append_why(alloc, &mut self.buffer, last, request, told)?;
+        let bytes = self.buffer.len() - end;
+        self.buffer.truncate(end);
+        Ok(bytes <= most)
     }
 
     /// Tells an event with all that is said beside it, unless its message is longer than so many bytes: whether it was told.

@@ -2,7 +2,7 @@
 ghost use Rattle.std.specs.Prelude.{◌≡◌, ◌≤◌, ◌++◌, IfOk, OnOk, OnErr, IsTrue};
 ghost use Rattle.dap_body.specs.Body.{event_data_in};
 ghost use Rattle.dap_envelope.specs.Canon.{canon};
-ghost use Rattle.dap_outbox.specs.Draft.{reply, emit, ask, message_of, recorded_terminal};
+ghost use Rattle.dap_outbox.specs.Draft.{reply, emit, ask, explained, message_of, recorded_terminal};
 ghost use Rattle.dap_outbox.specs.InRange.{IsRequestInRange};
 ghost use Rattle.dap_outbox.specs.Outbox.{answer_of, event_of, shape_of};
 ghost use Rattle.dap_json.specs.Field.{max_seq};
@@ -15,9 +15,12 @@ ghost use Rattle.dap_envelope.specs.ReadBack.{ReadsBack};
 use crate::answer::{Answer, Event, Fixed};
 use dap_body::{Body, EventBody};
 use dap_call::{RUN_IN_TERMINAL, TerminalCall, write_terminal};
+use dap_debuggee::Explanation;
 use dap_json::{List, Text, Tree};
 use dap_message::laws::fixed_messages_are_short;
-use dap_message::{append_answer, append_event, append_failure, append_request};
+use dap_message::{
+    append_answer, append_event, append_explained, append_failure, append_request,
+};
 use dap_tables::Entry;
 use std::alloc::{AllocError, Global};
 
@@ -52,6 +55,30 @@ pub(crate) fn append_reply(
             append_answer(alloc, out, seq, request.seq, command, &body_of(*fixed))
         }
     }
+}
+
+/// Appends the text of a failure with why the debuggee refused, or changes nothing.
+pub(crate) fn append_why(
+    alloc: Global,
+    out: &mut Vec<u8>,
+    seq: u64,
+    request: &Entry,
+    told: &Explanation,
+) -> Result<(), AllocError>
+    ensures canon { OnOk result (out.new.items ≡ out.old.items ++ canon (message_of seq (reply request.now (explained told.now)))) }
+    ensures reads_back { OnOk result (seq ≤ max_seq → IsRequestInRange request.now → CanonIsRead (message_of seq (reply request.now (explained told.now)))) }
+    ensures err { OnErr result (out.new.items ≡ out.old.items) }
+{
+    let (command, why) = (request.command.as_str(), told.text.as_str());
+    append_explained(
+        alloc,
+        out,
+        seq,
+        request.seq,
+        command,
+        why,
+        told.show_user,
+    )
 }
 
 fn event_name(event: &Event) -> &'static str

@@ -30,7 +30,7 @@ use Rattle.dap_query.specs.Queries.{object_of}
 use Rattle.dap_outbox.specs.Draft.{Answer, Draft, reply, emit, ask, success, failure, explained, plain_success}
 use Rattle.dap_plan.specs.BodyLaws.{SuccessesHaveTheirBodies}
 use Rattle.dap_plan.specs.Breakpoints.{are_too_many}
-use Rattle.dap_plan.specs.Handling.{Change, ChangeResult, answer_each, after_change, after_query, assigned_result, by_reply, change_result, effect_of, failing, fits, change_reason, query_reason, lines_asked, lines_change, lines_result, plan_for, resume_body, start_unless_asked, start_parked_unless_asked, wants_terminal, parked_wants_terminal, value_change, value_result}
+use Rattle.dap_plan.specs.Handling.{Change, ChangeResult, answer_each, after_change, after_query, assigned_result, by_reply, change_result, effect_of, failing, fits, change_reason, query_reason, lines_asked, lines_change, lines_result, plan_for, resume_body, start_unless_asked, start_parked_unless_asked, wants_terminal, parked_wants_terminal, value_change, value_result, answer_parked}
 use Rattle.dap_plan.specs.OrderLaws.{answer_to, comes_to}
 use Rattle.dap_plan.specs.Plan.{Made, Plan}
 use Rattle.dap_plan.specs.Session.{Session, query_of}
@@ -70,10 +70,19 @@ said r a ds body names h = ap body-said (sym (answers r a ds body names h))
 fails : {A : Type 0} (r : Entry) (f : Failure) (ds : List Draft) (body : Option Data) (names : List Target) → answer_to r.seq (reply r (failure f) ∷ ds) ≡ Some (success body names) → A
 fails r f ds body names h = absurd (true≢false (ap is-failure (answers r (failure f) ds body names h)))
 
-replied : (last : Reply) → body-said (by_reply None last) ≡ false
-replied done = refl
-replied refused = refl
-replied (happened h) = refl
+-- nor is one with a reason, or one without
+says-no-body : (a : Answer) (f : Failure) → (a ≡ failure f) ⊎ ((told : Explanation) × (f ≡ Debuggee) × (a ≡ explained told)) → body-said a ≡ false
+says-no-body a f (inl e) = rw e refl
+says-no-body a f (inr w) = rw w.2 refl
+
+no-success : (a : Answer) (f : Failure) → (a ≡ failure f) ⊎ ((told : Explanation) × (f ≡ Debuggee) × (a ≡ explained told)) → is-failure a ≡ true
+no-success a f (inl e) = rw e refl
+no-success a f (inr w) = rw w.2 refl
+
+replied : (s : Session) (r : Entry) (last : Reply) → body-said (by_reply s r last) ≡ false
+replied s r done = refl
+replied s r (refused why) = says-no-body (failing s r Debuggee why) Debuggee (failing-is s r Debuggee why)
+replied s r (happened h) = refl
 
 -- ---- effects whose success says the same of each command
 
@@ -94,18 +103,18 @@ own-says : (view : Shown) (s : Session) (r : Entry) (asked : Call) (last : Reply
 unfolding plan_for
 own-says view s r asked last effect.Initialize o body names h = said r _ (emit initialized ∷ []) body names h
 own-says view s r asked last effect.Park o body names h = no-some (success body names) h
-own-says view s r asked last effect.Start o body names h = said r _ [] body names h ∙ replied last
+own-says view s r asked last effect.Start o body names h = said r _ [] body names h ∙ replied s r last
 own-says view s r asked last effect.ConfigurationDone o body names h = said r _ [] body names h
-own-says view s r asked last effect.StartParked o body names h = said r _ (answer_each (by_reply None last) (parked_ones (without r.seq s.kept))) body names h
+own-says view s r asked last effect.StartParked o body names h = said r _ (answer_parked s (parked_ones (without r.seq s.kept)) last) body names h
 own-says view s r asked last effect.Ask o body names h = no-some (success body names) h
 own-says view s r asked last effect.AskParked o body names h = said r _ (ask ∷ []) body names h
 own-says view s r asked last effect.Disconnect o body names h = said r plain_success [] body names (sym (behind-others r.seq (failure Cancelled) (without r.seq s.kept) (reply r plain_success ∷ []) (contains_seq-without r.seq s.kept)) ∙ h)
 own-says view s r asked last effect.EndAndDisconnect o body names h = said r plain_success [] body names (sym (behind-others r.seq (failure Cancelled) (without r.seq s.kept) (reply r plain_success ∷ []) (contains_seq-without r.seq s.kept)) ∙ h)
 own-says view s r asked last effect.Terminate o body names h = said r _ (emit terminated ∷ []) body names h
 own-says view s r asked done (effect.Resume how) o body names h = said r _ [] body names h
-own-says view s r asked refused (effect.Resume how) o body names h = fails r _ [] body names h
+own-says view s r asked (refused why) (effect.Resume how) o body names h = absurd (true≢false (sym (no-success (failing s r Debuggee why) Debuggee (failing-is s r Debuggee why)) ∙ ap is-failure (answers r (failing s r Debuggee why) [] body names h)))
 own-says view s r asked (happened x) (effect.Resume how) o body names h = fails r _ [] body names h
-own-says view s r asked last effect.Pause o body names h = said r _ [] body names h ∙ replied last
+own-says view s r asked last effect.Pause o body names h = said r _ [] body names h ∙ replied s r last
 own-says view s r asked last effect.Query o body names h = absurd (true≢false (sym o))
 own-says view s r asked last effect.Change o body names h = absurd (true≢false (sym o))
 

@@ -24,7 +24,7 @@ use Rattle.dap_plan.specs.declared.fault.AdapterFault.TheVariants.{RepeatedSeq, 
 use Rattle.dap_decision.specs.declared.phase.Phase.{Phase}
 use Rattle.dap_decision.specs.declared.phase.Phase.TheVariants.{Fresh, Ended, Asked as AskedPhase}
 use Rattle.dap_decision.specs.Failures.{of_known, command_of}
-use Rattle.dap_plan.specs.Handling.{answer_each, by_reply}
+use Rattle.dap_plan.specs.Handling.{answer_each, by_reply_each}
 use Rattle.dap_plan.specs.Laws.{CanMake}
 use Rattle.dap_plan.specs.Plan.{Made, Plan, at_once, no_change, messages_due, plan_within_numbers}
 use Rattle.dap_outbox.specs.Draft.{Answer, failure, plain_success, reply, requests_in}
@@ -39,7 +39,7 @@ use Rattle.dap_plan.proofs.Kept.{Walked, walked-none, walked-append, walked-each
 use Rattle.dap_plan.proofs.Moves.{IsPlain, is-plain, moves-plain}
 use Rattle.dap_plan.proofs.OwnRequests.{none-started}
 use Rattle.dap_plan.proofs.Outcomes.{IsBare, bare-failure, bare-live, IsSound, AreBare, AskNone, AsksNothing, Stays, asks-nothing, asks-well, none-asked, each-asks-none, append-asks-none, references-plain, each-bare, append-bare}
-use Rattle.dap_plan.proofs.Rows.{length-each, bare-by_reply, walked-all}
+use Rattle.dap_plan.proofs.Rows.{length-each, bare-parked, walked-all}
 use Rattle.dap_plan.proofs.Turns.{afforded, le-of}
 
 -- ---- a request that came
@@ -243,10 +243,11 @@ record IsAnswer (s : Session) (request_seq : ℕ) (command : List ℕ) (n : ℕ)
 started-answer : (s : Session) (request_seq : ℕ) (command : List ℕ) (last : Reply) → is_asked request_seq s.asked ≡ true → command ≡ run_in_terminal → IsAnswer s request_seq command (length (parked_ones s.kept)) (after_terminal s last)
 started-answer s request_seq command last h e =
     let parked = parked_ones s.kept in
-    let count = length-each (by_reply None last) parked in
+    let answer = by_reply_each s parked last in
+    let count = length-each answer parked in
     record {
-      sound = answered-sound s (after_terminal s last) request_seq command h e (is-plain s _ refl refl refl) (each-bare (by_reply None last) parked (bare-by_reply last)) (each-asks-none (by_reply None last) parked) refl (omega arith)
-          (λ (d : HasDistinctSeqs s.kept). walked-all (λ (x : Kept). x.parked) (by_reply None last) s.kept d) (λ suits. none-started last None refl);
+      sound = answered-sound s (after_terminal s last) request_seq command h e (is-plain s _ refl refl refl) (each-bare answer parked (bare-parked s parked last)) (each-asks-none answer parked) refl (omega arith)
+          (λ (d : HasDistinctSeqs s.kept). walked-all (λ (x : Kept). x.parked) answer s.kept d) (λ suits. none-started last None refl);
       few = length-filtered (λ (k : Kept). not k.parked) s.kept;
       count = count;
     }
@@ -267,10 +268,10 @@ late-answer s request_seq command h e late =
 terminal-answer : (ok : Bool) (s : Session) (request_seq : ℕ) (command : List ℕ) (made : Made) → is_asked request_seq s.asked ≡ true → command ≡ run_in_terminal → CanMake (plan_of_terminal ok s) made → IsAnswer s request_seq command (messages_due (plan_of_terminal ok s)) made
 terminal-answer true s request_seq command made h e is =
     let o = started-answer s request_seq command is.0 h e in
-    let due : length (parked_ones s.kept) ≡ length (answer_each (by_reply None done) (parked_ones s.kept)) = sym (length-each (by_reply None done) (parked_ones s.kept)) in
+    let due : length (parked_ones s.kept) ≡ length (answer_each plain_success (parked_ones s.kept)) = sym (length-each plain_success (parked_ones s.kept)) in
     subst (λ (x : Made). IsAnswer s request_seq command (messages_due (plan_of_terminal true s)) x) (sym is.1) (record { sound = o.sound; few = o.few; count = o.count ∙ due })
 terminal-answer false s request_seq command made h e is =
-    let o = started-answer s request_seq command refused h e in
+    let o = started-answer s request_seq command (refused None) h e in
     subst (λ (x : Made). IsAnswer s request_seq command (messages_due (plan_of_terminal false s)) x) (sym is) (record { sound = o.sound; few = o.few; count = refl })
 
 by-phase : (b ok : Bool) (s : Session) (request_seq : ℕ) (command : List ℕ) (made : Made) → is_phase AskedPhase s.phase ≡ b → is_asked request_seq s.asked ≡ true → command ≡ run_in_terminal
@@ -337,8 +338,8 @@ request-exact false false s r plan e = given-exact s (at_once (after_taking r s)
 terminal-exact : (ok : Bool) (s : Session) → IsExact (plan_of_terminal ok s)
 terminal-exact true s = λ made is.
     let parked = parked_ones s.kept in
-    ap (λ (x : Made). length x.drafts) is.1 ∙ (length-each (by_reply None is.0) parked ∙ sym (length-each (by_reply None done) parked))
-terminal-exact false s = once-exact (after_terminal s refused)
+    ap (λ (x : Made). length x.drafts) is.1 ∙ (length-each (by_reply_each s parked is.0) parked ∙ sym (length-each plain_success parked))
+terminal-exact false s = once-exact (after_terminal s (refused None))
 
 phase-exact : (b ok : Bool) (s : Session) → IsExact (let plan : Plan = (if b then plan_of_terminal ok s else at_once (after_late_terminal s)) in plan)
 phase-exact true ok s = terminal-exact ok s

@@ -14,7 +14,7 @@ use Rattle.dap_debuggee.specs.Shown.{Shown, to_start, to_resume, to_end, Reply, 
 use Rattle.dap_decision.specs.declared.effect.Effect.{Effect}
 use Rattle.dap_decision.specs.declared.effect.Effect.TheVariants as effect
 use Rattle.dap_query.specs.Bodies.{query_result}
-use Rattle.dap_plan.specs.Handling.{after_launch, after_parked_launch, after_disconnect, after_terminate, start_phase, after_resume, after_query, by_reply, change_result, change_reason, query_reason, plan_for}
+use Rattle.dap_plan.specs.Handling.{after_launch, after_parked_launch, after_disconnect, after_terminate, start_phase, after_resume, after_query, by_reply, change_result, change_reason, query_reason, plan_for, by_reply_each}
 use Rattle.dap_decision.specs.Failures.{thread_of}
 use Rattle.dap_plan.specs.OrderLaws.{reason_in}
 use Rattle.dap_plan.specs.Plan.{at_once, after_answering}
@@ -31,7 +31,7 @@ use Rattle.dap_query.specs.Refused.{refuses_query, objects_named}
 use Rattle.dap_plan.specs.Within.{IsWithin}
 use Rattle.dap_decision.specs.declared.phase.Phase.{Phase}
 use Rattle.dap_decision.specs.declared.phase.Phase.TheVariants.{Configured}
-use Rattle.dap_plan.proofs.Rows.{IsNoSetVariable, after_initialize-outcome, after_park-outcome, after_asking-outcome, after_asking_parked-outcome, after_launch-outcome, after_configuration_done-outcome, after_parked_launch-outcome, after_disconnect-outcome, after_disconnect-clean, after_terminate-outcome, after_resume-outcome, after_resume-clean, change-row, change-stands, change-bare, change-keeps, after_query-row, one-clean, reply-clean, bare-by_reply}
+use Rattle.dap_plan.proofs.Rows.{IsNoSetVariable, after_initialize-outcome, after_park-outcome, after_asking-outcome, after_asking_parked-outcome, after_launch-outcome, after_configuration_done-outcome, after_parked_launch-outcome, after_disconnect-outcome, after_disconnect-clean, after_terminate-outcome, after_resume-outcome, after_resume-clean, change-row, change-stands, change-bare, change-keeps, after_query-row, one-clean, reply-clean, bare-by_reply, parked-clean}
 use Rattle.dap_plan.proofs.ServedInOrder.{Fails, DoesWell, first_of, query-fails, change-fails, well-so, succeeds-first, succeeds-initialize, starts-so, starts-parked-so, asks-so, asks-parked-so, disconnects-so, resumes-so, pauses-so}
 
 -- a query answers no command that sets something
@@ -58,16 +58,16 @@ asks_none-start phase h = rw h refl
 
 pub starts-its-state : (first before : State) (last : Reply) → before ≡ first → IsStateOf first (start_phase last) (state_after before to_start last)
 starts-its-state first before done h = refl
-starts-its-state first before refused h = h
+starts-its-state first before (refused why) h = h
 starts-its-state first before (happened x) h = h
 
 -- only done is answered to an end
 ends-its-state : (before : State) (last : Reply) → IsTrue (may_answer before to_end last) → state_after before to_end last ≡ state.Gone
 ends-its-state before done may = refl
-ends-its-state state.NotStarted refused may = absurd cc
-ends-its-state state.Running refused may = absurd cc
-ends-its-state state.Stopped refused may = absurd cc
-ends-its-state state.Gone refused may = absurd cc
+ends-its-state state.NotStarted (refused why) may = absurd cc
+ends-its-state state.Running (refused why) may = absurd cc
+ends-its-state state.Stopped (refused why) may = absurd cc
+ends-its-state state.Gone (refused why) may = absurd cc
 ends-its-state state.NotStarted (happened x) may = absurd cc
 ends-its-state state.Running (happened x) may = absurd cc
 ends-its-state state.Stopped (happened x) may = absurd cc
@@ -75,7 +75,7 @@ ends-its-state state.Gone (happened x) may = absurd cc
 
 resumes-its-state : (first : State) (how : How) (s : Session) (k : Kept) (thread : ℤ) (before : State) (last : Reply) → IsTrue (may_answer before (to_resume how thread) last) → IsStateOf first s.phase before → IsStateOf first (after_resume how s k.entry last).after.phase (state_after before (to_resume how thread) last)
 resumes-its-state first how s k thread before done may h = refl
-resumes-its-state first how s k thread before refused may h = h
+resumes-its-state first how s k thread before (refused why) may h = h
 resumes-its-state first how s k thread before (happened x) may h = h
 
 pub effect-row : (e : Effect) (view : Shown) (s : Session) (asked : Call) → Suits e asked → IsIn e s.phase → is_placed e s.phase ≡ true → EffectRow e view s asked
@@ -89,7 +89,7 @@ effect-row effect.Park view s asked n p q = record {
   order = λ r w. well-so effect.Park s r asked None _ refl (λ last. refl);
 }
 effect-row effect.Start view s asked n p q = record {
-  outcome = λ k i o. asking-row s 1 _ (after_launch s k.entry) (after_launch-outcome s k (asks_none-start s.phase p) i) (λ (last : Reply). one-clean k (by_reply None last) (reply-clean None last)) (λ first before last may h. starts-its-state first before last (unstarted first s.phase before q h));
+  outcome = λ k i o. asking-row s 1 _ (after_launch s k.entry) (after_launch-outcome s k (asks_none-start s.phase p) i) (λ (last : Reply). one-clean k (by_reply s k.entry last) (reply-clean s k.entry last)) (λ first before last may h. starts-its-state first before last (unstarted first s.phase before q h));
   order = λ r w. well-so effect.Start s r asked None _ refl (λ last. starts-so s r last p);
 }
 effect-row effect.Ask view s asked n p q = record {
@@ -105,7 +105,7 @@ effect-row effect.ConfigurationDone view s asked n p q = record {
   order = λ r w. well-so effect.ConfigurationDone s r asked None _ refl (λ last. succeeds-first r []);
 }
 effect-row effect.StartParked view s asked n p q = record {
-  outcome = λ k i o. asking-row s (length (parked_ones (without k.entry.seq s.kept)) + 1) _ (after_parked_launch s k.entry) (after_parked_launch-outcome s k p i) (λ (last : Reply). each-clean (by_reply None last) (parked_ones (without k.entry.seq s.kept)) (reply-clean None last)) (λ first before last may h. starts-its-state first before last (unstarted first s.phase before q h));
+  outcome = λ k i o. asking-row s (length (parked_ones (without k.entry.seq s.kept)) + 1) _ (after_parked_launch s k.entry) (after_parked_launch-outcome s k p i) (λ (last : Reply). each-clean (by_reply_each s (parked_ones (without k.entry.seq s.kept)) last) (parked_ones (without k.entry.seq s.kept)) (parked-clean s (parked_ones (without k.entry.seq s.kept)) last)) (λ first before last may h. starts-its-state first before last (unstarted first s.phase before q h));
   order = λ r w. well-so effect.StartParked s r asked None _ refl (λ last. starts-parked-so s r last);
 }
 effect-row effect.Disconnect view s asked n p q = record {
@@ -129,7 +129,7 @@ effect-row (effect.Resume h) view s asked n p q = record {
   order = λ r w. well-so (effect.Resume h) s r asked None _ refl (λ last. resumes-so h s r last);
 }
 effect-row effect.Pause view s asked n p q = record {
-  outcome = λ k i o. asking-row s 1 _ (λ last. after_answering k.entry (by_reply None last) s) (λ (last : Reply). after_answering-outcome s k (by_reply None last) i (bare-by_reply last)) (λ (last : Reply). one-clean k (by_reply None last) (reply-clean None last)) (λ first before last may h. h);
+  outcome = λ k i o. asking-row s 1 _ (λ last. after_answering k.entry (by_reply s k.entry last) s) (λ (last : Reply). after_answering-outcome s k (by_reply s k.entry last) i (bare-by_reply s k.entry last)) (λ (last : Reply). one-clean k (by_reply s k.entry last) (reply-clean s k.entry last)) (λ first before last may h. h);
   order = λ r w. well-so effect.Pause s r asked None _ refl (λ last. pauses-so s r last);
 }
 effect-row effect.Query view s asked n p q = record {

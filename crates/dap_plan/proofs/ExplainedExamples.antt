@@ -1,16 +1,20 @@
 -- Worked examples of failures with why the debuggee refused, each shown by computation.
-use Rattle.std.proofs.Common.{◌≡◌, [], ◌∷◌, true, false, codes, Option, Some, None, pos, refl}
-use Rattle.dap_frame.specs.Settings.{usual_settings}
+use Rattle.std.proofs.Common.{◌≡◌, ℕ, List, [], ◌∷◌, true, false, codes, Option, Some, None, pos, refl}
+use Rattle.std.specs.Fmt.{digits}
+use Rattle.json.specs.Print.{escape_byte}
+use Rattle.dap_frame.specs.Settings.{settings, usual_settings}
+use Rattle.dap_envelope.specs.Canon.{canon, tree_of, response_members}
 use Rattle.dap_body.specs.declared.failure.Failure.{Failure}
 use Rattle.dap_body.specs.declared.failure.Failure.TheVariants.{Debuggee, TooLarge, StaleReference}
 use Rattle.dap_call.specs.declared.call.Call.{Call}
 use Rattle.dap_call.specs.declared.call.Call.TheVariants as call
 use Rattle.dap_command.specs.declared.source_key.SourceKey.TheVariants.{Reference}
-use Rattle.dap_debuggee.specs.Shown.{for_frames, for_value, for_content, for_verified}
+use Rattle.dap_debuggee.specs.Shown.{done, refused, for_frames, for_value, for_content, for_verified}
 use Rattle.dap_debuggee.specs.declared.explanation.Explanation.{Explanation}
-use Rattle.dap_outbox.specs.Draft.{explained, failure, failure_in}
+use Rattle.dap_outbox.specs.Draft.{explained, failure, failure_in, plain_success}
+use Rattle.dap_tables.specs.Outstanding.{Kept}
 use Rattle.dap_tables.specs.declared.entry.Entry.{Entry}
-use Rattle.dap_plan.specs.Handling.{explained_if, failing, query_asked, query_before}
+use Rattle.dap_plan.specs.Handling.{by_reply, by_reply_each, explained_if, failing, query_asked, query_before}
 use Rattle.dap_plan.specs.Session.{Session, fresh_session}
 
 abbrev session : Session
@@ -53,3 +57,32 @@ never_refused = (refl, refl, refl)
 
 verified : (query_before session (call.SetBreakpoints (Reference 1) (2 ∷ 3 ∷ [])) ≡ Some (for_verified (Reference 1) (2 ∷ 3 ∷ []))) × (query_asked session (call.SetBreakpoints (Reference 1) (2 ∷ [])) ≡ None)
 verified = (refl, refl)
+
+-- ---- acts
+
+abbrev launch : Entry
+launch = record { seq = 4; command = codes "launch"; arguments = None }
+
+abbrev four : Explanation
+four = record { text = codes "zzzz"; show_user = false }
+
+-- of this limit on bodies
+abbrev within : ℕ → Session
+within body = fresh_session (settings 8192 body 64 65536 4096 9007199254740991 2147483647)
+
+-- 168 bytes and the reason, with numbers of one digit
+of_an_act : (by_reply (within 172) launch (refused (Some four)) ≡ explained four) × (by_reply (within 171) launch (refused (Some four)) ≡ failure Debuggee)
+unfolding canon tree_of response_members escape_byte digits
+of_an_act = (refl, refl)
+
+-- what is done has none, and where none is given each answer is as it was
+without_a_reason_too : (s : Session) (r : Entry) (parked : List Kept) → (by_reply s r done ≡ plain_success) × (by_reply s r (refused None) ≡ failure Debuggee) × (by_reply_each s parked done ≡ plain_success) × (by_reply_each s parked (refused None) ≡ failure Debuggee)
+without_a_reason_too s r parked = (refl, refl, refl, refl)
+
+abbrev parked : List Kept
+parked = record { entry = launch; parked = true } ∷ []
+
+-- with the greatest own number, which has fifteen digits more
+of_what_is_parked : (by_reply_each (within 187) parked (refused (Some four)) ≡ explained four) × (by_reply_each (within 186) parked (refused (Some four)) ≡ failure Debuggee)
+unfolding canon tree_of response_members escape_byte digits
+of_what_is_parked = (refl, refl)

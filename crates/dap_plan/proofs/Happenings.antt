@@ -34,7 +34,7 @@ after_happening-sound (happening.Exited code) s q =
 
 reply-sound : (s : Session) (r : Reply) → asks_none s.phase ≡ true → IsSound (Unit {0}) s [] None (after_poll_reply s r)
 reply-sound s done q = no_change-sound s
-reply-sound s refused q = no_change-sound s
+reply-sound s (refused why) q = no_change-sound s
 reply-sound s (happened h) q = after_happening-sound h s q
 
 -- no own request waits where there is a debuggee

@@ -16,7 +16,7 @@ use Rattle.dap_debuggee.specs.declared.explanation.Explanation.{Explanation}
 use Rattle.dap_plan.specs.Answering.{GoesWell}
 use Rattle.dap_query.specs.References.{AreLive}
 use Rattle.dap_plan.specs.GivenLaws.{given_by, answers_set_variable, AllGiveLive}
-use Rattle.dap_plan.specs.Handling.{answer_each, explained_if, failing, fits_explained}
+use Rattle.dap_plan.specs.Handling.{answer_each, explained_if, failing, failing_each, fits_explained, fits_explained_each}
 use Rattle.dap_plan.specs.Laws.{CanMake}
 use Rattle.dap_plan.specs.Plan.{Made, Plan, at_once, asking, after_answering, messages_due, entries_of, references_end_if}
 use Rattle.dap_outbox.specs.Draft.{Answer, success, failure, explained, plain_success, Draft, reply, emit, ask, requests_in, names_in, names_of, outs}
@@ -252,6 +252,24 @@ failing-is s r Debuggee (Some told) = by (fits_explained s r told)
     by true = inr (told, refl, refl)
     by false = inl refl
 failing-is s r _ why = inl refl
+
+-- what is parked fails alike, with a reason or without
+pub failing_each-is : (s : Session) (parked : List Kept) (why : Option Explanation) → (failing_each s parked why ≡ failure Debuggee) ⊎ ((told : Explanation) × (Debuggee ≡ Debuggee) × (failing_each s parked why ≡ explained told))
+failing_each-is s parked None = inl refl
+failing_each-is s parked (Some told) = by (fits_explained_each s parked told)
+  where
+    by : (b : Bool) → (explained_if b told ≡ failure Debuggee) ⊎ ((x : Explanation) × (Debuggee ≡ Debuggee) × (explained_if b told ≡ explained x))
+    by true = inr (told, refl, refl)
+    by false = inl refl
+
+-- what such a failure is: bare, and none for size or room
+pub bare-failing : (a : Answer) (f : Failure) → (a ≡ failure f) ⊎ ((told : Explanation) × (f ≡ Debuggee) × (a ≡ explained told)) → IsBare a
+bare-failing a f (inl e) = subst IsBare (sym e) (bare-failure f)
+bare-failing a f (inr w) = subst IsBare (sym w.2) (bare-explained w.0)
+
+pub clean-failing : (a : Answer) (f : Failure) → is_for_room f ≡ false → (a ≡ failure f) ⊎ ((told : Explanation) × (f ≡ Debuggee) × (a ≡ explained told)) → is_refused a ≡ false
+clean-failing a f h (inl e) = rw e h
+clean-failing a f h (inr w) = rw w.2 refl
 
 answered-row : (s : Session) (k : Kept) (a : Answer) (f : Failure) → IsHandled s k → (a ≡ failure f) ⊎ ((told : Explanation) × (f ≡ Debuggee) × (a ≡ explained told)) → IsRow s (at_once (after_answering k.entry a s))
 answered-row s k a f i (inl e) = subst (λ (x : Answer). IsRow s (at_once (after_answering k.entry x s))) (sym e) (failed-row s k f i)

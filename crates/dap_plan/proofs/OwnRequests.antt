@@ -32,7 +32,7 @@ none-in _ asked h suits = suits
 
 pub none-started : (last : Reply) (asked : Option ℕ) → asked ≡ None → IsAskedIn (start_phase last) asked
 none-started done asked h = h
-none-started refused asked h = h
+none-started (refused why) asked h = h
 none-started (happened x) asked h = h
 
 -- ---- an effect and its phase

@@ -30,7 +30,7 @@ use Rattle.dap_query.specs.References.{AreLive}
 use Rattle.dap_plan.specs.Breakpoints.{are_too_many}
 use Rattle.dap_decision.specs.Failures.{command_of}
 use Rattle.dap_plan.specs.GivenLaws.{is_set_variable}
-use Rattle.dap_plan.specs.Handling.{lines_change, lines_result, after_initialize, after_park, after_asking, after_asking_parked, after_launch, after_configuration_done, after_parked_launch, after_disconnect, after_terminate, after_resume, resume_body, after_query, fits, by_reply, answer_each, lines_asked, Change, ChangeResult, change_asked, after_change, change_result}
+use Rattle.dap_plan.specs.Handling.{lines_change, lines_result, after_initialize, after_park, after_asking, after_asking_parked, after_launch, after_configuration_done, after_parked_launch, after_disconnect, after_terminate, after_resume, resume_body, after_query, fits, by_reply, answer_each, lines_asked, Change, ChangeResult, change_asked, after_change, change_result, by_reply_each, failing, failing_each}
 use Rattle.dap_plan.specs.Plan.{Made, at_once, after_answering}
 use Rattle.dap_outbox.specs.Draft.{Answer, success, failure, plain_success, reply, emit, ask, requests_in}
 use Rattle.dap_plan.specs.Session.{Session, query_of}
@@ -42,7 +42,7 @@ use Rattle.dap_plan.proofs.Kept.{Walked, walked-none, walked-event, walked-ask, 
 use Rattle.dap_plan.proofs.Moves.{StandFew, moves-grown, moves-set, moves-plain, is-plain}
 use Rattle.dap_plan.proofs.OwnRequests.{asks_none, none-in, none-started}
 use Rattle.dap_plan.proofs.GivenBodies.{offers-none, bare-resume, lines-bare, value-bare}
-use Rattle.dap_plan.proofs.Outcomes.{IsBare, bare-failure, bare-success, IsOutcome, outcome, asks-nothing, AsksWell, each-asks-none, append-asks-none, references-plain, replied, plain-reply, plain-outcome, after_answering-outcome, each-bare, append-bare, is_refused, AreClean, each-clean, append-clean, IsRow, once-row, failed-row, failing-row, asking-row, either-row}
+use Rattle.dap_plan.proofs.Outcomes.{IsBare, bare-failure, bare-success, IsOutcome, outcome, asks-nothing, AsksWell, each-asks-none, append-asks-none, references-plain, replied, plain-reply, plain-outcome, after_answering-outcome, each-bare, append-bare, is_refused, AreClean, each-clean, append-clean, IsRow, once-row, failed-row, failing-row, asking-row, either-row, bare-failing, clean-failing, failing-is, failing_each-is}
 use Rattle.dap_debuggee.specs.declared.answers.Placement.{Placement}
 
 -- ---- forms
@@ -86,21 +86,32 @@ after_park-outcome s k q i =
     (λ (d : HasDistinctSeqs s.kept). fewer-park s k d i)
     (asks-nothing s _ refl tt (none-in s.phase s.asked q))
 
-pub bare-by_reply : (last : Reply) → IsBare (by_reply None last)
-bare-by_reply done = bare-success
-bare-by_reply refused = bare-failure Debuggee
-bare-by_reply (happened h) = bare-failure Debuggee
+pub bare-by_reply : (s : Session) (r : Entry) (last : Reply) → IsBare (by_reply s r last)
+bare-by_reply s r done = bare-success
+bare-by_reply s r (refused why) = bare-failing (failing s r Debuggee why) Debuggee (failing-is s r Debuggee why)
+bare-by_reply s r (happened h) = bare-failure Debuggee
 
-pub reply-clean : (body : Option Data) (last : Reply) → is_refused (by_reply body last) ≡ false
-reply-clean body done = refl
-reply-clean body refused = refl
-reply-clean body (happened h) = refl
+pub reply-clean : (s : Session) (r : Entry) (last : Reply) → is_refused (by_reply s r last) ≡ false
+reply-clean s r done = refl
+reply-clean s r (refused why) = clean-failing (failing s r Debuggee why) Debuggee refl (failing-is s r Debuggee why)
+reply-clean s r (happened h) = refl
+
+-- the same of what is parked
+pub bare-parked : (s : Session) (parked : List Kept) (last : Reply) → IsBare (by_reply_each s parked last)
+bare-parked s parked done = bare-success
+bare-parked s parked (refused why) = bare-failing (failing_each s parked why) Debuggee (failing_each-is s parked why)
+bare-parked s parked (happened h) = bare-failure Debuggee
+
+pub parked-clean : (s : Session) (parked : List Kept) (last : Reply) → is_refused (by_reply_each s parked last) ≡ false
+parked-clean s parked done = refl
+parked-clean s parked (refused why) = clean-failing (failing_each s parked why) Debuggee refl (failing_each-is s parked why)
+parked-clean s parked (happened h) = refl
 
 pub one-clean : (k : Kept) (answer : Answer) → is_refused answer ≡ false → AreClean (reply k.entry answer ∷ [])
 one-clean k answer h = rw h refl
 
 pub after_launch-outcome : (s : Session) (k : Kept) → asks_none s.phase ≡ true → IsHandled s k → (last : Reply) → IsOutcome s 1 (after_launch s k.entry last)
-after_launch-outcome s k q i last = plain-reply s k (by_reply None last) (after_launch s k.entry last) i (bare-by_reply last) refl refl refl (is-plain s _ refl refl refl) refl (λ suits. none-started last s.asked (none-in s.phase s.asked q suits))
+after_launch-outcome s k q i last = plain-reply s k (by_reply s k.entry last) (after_launch s k.entry last) i (bare-by_reply s k.entry last) refl refl refl (is-plain s _ refl refl refl) refl (λ suits. none-started last s.asked (none-in s.phase s.asked q suits))
 
 pub after_configuration_done-outcome : (s : Session) (k : Kept) → asks_none s.phase ≡ true → IsHandled s k → IsOutcome s 1 (after_configuration_done s k.entry)
 after_configuration_done-outcome s k q i = plain-reply s k plain_success (after_configuration_done s k.entry) i bare-success refl refl refl (is-plain s _ refl refl refl) refl (none-in s.phase s.asked q)
@@ -108,18 +119,20 @@ after_configuration_done-outcome s k q i = plain-reply s k plain_success (after_
 after_parked_launch-walked : (s : Session) (k : Kept) (last : Reply) → IsHandled s k → HasDistinctSeqs s.kept → Walked (after_parked_launch s k.entry last).drafts (asks s.kept) (asks (unparked_ones (without k.entry.seq s.kept)))
 after_parked_launch-walked s k last i d =
     let others = without k.entry.seq s.kept in
+    let answer = by_reply_each s (parked_ones others) last in
     let first = walked-kept plain_success s.kept k d i.kept in
-    let rest = walked-all (λ (x : Kept). x.parked) (by_reply None last) others (distinct-without s.kept k d i.kept) in
-    walked-append (reply k.entry plain_success ∷ []) (answer_each (by_reply None last) (parked_ones others)) (asks s.kept) (asks others) (asks (unparked_ones others)) first rest
+    let rest = walked-all (λ (x : Kept). x.parked) answer others (distinct-without s.kept k d i.kept) in
+    walked-append (reply k.entry plain_success ∷ []) (answer_each answer (parked_ones others)) (asks s.kept) (asks others) (asks (unparked_ones others)) first rest
 
 pub after_parked_launch-outcome : (s : Session) (k : Kept) → asks_none s.phase ≡ true → IsHandled s k → (last : Reply) → IsOutcome s (length (parked_ones (without k.entry.seq s.kept)) + 1) (after_parked_launch s k.entry last)
 after_parked_launch-outcome s k q i last =
     let others = parked_ones (without k.entry.seq s.kept) in
-    let count = length-each (by_reply None last) others in
-    plain-outcome s (length others + 1) (after_parked_launch s k.entry last) (is-plain s _ refl refl refl) (refl, refl, each-bare (by_reply None last) others (bare-by_reply last)) (omega arith) (omega arith)
+    let answer = by_reply_each s others last in
+    let count = length-each answer others in
+    plain-outcome s (length others + 1) (after_parked_launch s k.entry last) (is-plain s _ refl refl refl) (refl, refl, each-bare answer others (bare-parked s others last)) (omega arith) (omega arith)
     (λ (d : HasDistinctSeqs s.kept). after_parked_launch-walked s k last i d)
     (λ (d : HasDistinctSeqs s.kept). fewer-unparked s k d i)
-    (asks-nothing s _ refl (each-asks-none (by_reply None last) others) (λ suits. none-started last s.asked (none-in s.phase s.asked q suits)))
+    (asks-nothing s _ refl (each-asks-none answer others) (λ suits. none-started last s.asked (none-in s.phase s.asked q suits)))
 
 -- ---- a terminal
 
@@ -189,12 +202,12 @@ after_terminate-outcome s k q i =
 
 pub after_resume-outcome : (h : How) (s : Session) (k : Kept) → asks_none s.phase ≡ true → IsHandled s k → (last : Reply) → IsOutcome s 1 (after_resume h s k.entry last)
 after_resume-outcome h s k q i done = plain-reply s k (success (resume_body h) []) (after_resume h s k.entry done) i (bare-resume h) refl refl refl (is-plain s _ refl refl refl) refl (none-in s.phase s.asked q)
-after_resume-outcome h s k q i refused = after_answering-outcome s k (failure Debuggee) i (bare-failure Debuggee)
+after_resume-outcome h s k q i (refused why) = after_answering-outcome s k (failing s k.entry Debuggee why) i (bare-failing (failing s k.entry Debuggee why) Debuggee (failing-is s k.entry Debuggee why))
 after_resume-outcome h s k q i (happened x) = after_answering-outcome s k (failure Debuggee) i (bare-failure Debuggee)
 
 pub after_resume-clean : (h : How) (s : Session) (k : Kept) (last : Reply) → AreClean (after_resume h s k.entry last).drafts
 after_resume-clean h s k done = refl
-after_resume-clean h s k refused = refl
+after_resume-clean h s k (refused why) = one-clean k (failing s k.entry Debuggee why) (clean-failing (failing s k.entry Debuggee why) Debuggee refl (failing-is s k.entry Debuggee why))
 after_resume-clean h s k (happened x) = refl
 
 -- ---- what is changed

@@ -29,7 +29,7 @@ use Rattle.dap_query.specs.Bodies.{QueryAnswer, QueryResult}
 use Rattle.dap_query.specs.Laws.{AreFew, IsAnsweredOrRefused, is_refused, is_answered}
 use Rattle.dap_query.specs.Queries.{object_of}
 use Rattle.dap_plan.specs.Breakpoints.{are_too_many}
-use Rattle.dap_plan.specs.Handling.{after_query, after_initialize, after_asking, after_asking_parked, after_launch, after_parked_launch, after_resume, after_disconnect, by_reply, answer_each, fits, lines_asked, Change, ChangeResult, change_asked, after_change, change_result, lines_change, lines_result, value_change, assigned_result, value_result, failing, change_reason}
+use Rattle.dap_plan.specs.Handling.{after_query, after_initialize, after_asking, after_asking_parked, after_launch, after_parked_launch, after_resume, after_disconnect, by_reply, answer_each, fits, lines_asked, Change, ChangeResult, change_asked, after_change, change_result, lines_change, lines_result, value_change, assigned_result, value_result, failing, change_reason, by_reply_each, answer_parked}
 use Rattle.dap_plan.specs.OrderLaws.{refuses, sets_too_many, live_with, is_past_room, is_past_numbers, names_too_many, exhausts_numbers, is_too_large, is_long_answer, is_long_change, act_in, act_of, answer_to, comes_to, IsSuccess, IsByReply, IsDoneOrRefused, ParksAndAsks, AnswersAndAsks, IsAnswered}
 use Rattle.dap_plan.specs.Plan.{Made, Plan, at_once, after_answering}
 use Rattle.dap_outbox.specs.Draft.{Answer, Draft, reply, ask, failure, plain_success}
@@ -243,35 +243,35 @@ succeeds-first r ds = rw (eqb-self r.seq) tt
 pub succeeds-initialize : (s : Session) (r : Entry) (asked : Call) → IsSuccess (answer_to r.seq (after_initialize s r asked).drafts)
 succeeds-initialize s r asked = rw (eqb-self r.seq) tt
 
-pub pauses-so : (s : Session) (r : Entry) (last : Reply) → IsDoneOrRefused s r last (after_answering r (by_reply None last) s)
+pub pauses-so : (s : Session) (r : Entry) (last : Reply) → IsDoneOrRefused s r last (after_answering r (by_reply s r last) s)
 pauses-so s r done = rw (eqb-self r.seq) tt
-pauses-so s r refused = refl
+pauses-so s r (refused why) = refl
 pauses-so s r (happened h) = refl
 
 pub resumes-so : (how : How) (s : Session) (r : Entry) (last : Reply) → IsDoneOrRefused s r last (after_resume how s r last)
 resumes-so how s r done = rw (eqb-self r.seq) tt
-resumes-so how s r refused = refl
+resumes-so how s r (refused why) = refl
 resumes-so how s r (happened h) = refl
 
-still-configured : (s : Session) (r : Entry) → s.phase ≡ Configured
-    → (let m : Made = record { drafts = reply r (failure Debuggee) ∷ []; drops = false; after = record s { phase = Configured; kept = without r.seq s.kept; used = s.used + 1 } } in m) ≡ after_answering r (failure Debuggee) s
-still-configured s r h =
-    ap (λ (p : Phase). let m : Made = record { drafts = reply r (failure Debuggee) ∷ []; drops = false; after = record s { phase = p; kept = without r.seq s.kept; used = s.used + 1 } } in m) (sym h)
+still-configured : (s : Session) (r : Entry) (answer : Answer) → s.phase ≡ Configured
+    → (let m : Made = record { drafts = reply r answer ∷ []; drops = false; after = record s { phase = Configured; kept = without r.seq s.kept; used = s.used + 1 } } in m) ≡ after_answering r answer s
+still-configured s r answer h =
+    ap (λ (p : Phase). let m : Made = record { drafts = reply r answer ∷ []; drops = false; after = record s { phase = p; kept = without r.seq s.kept; used = s.used + 1 } } in m) (sym h)
 
 pub starts-so : (s : Session) (r : Entry) (last : Reply) → s.phase ≡ Configured → IsDoneOrRefused s r last (after_launch s r last)
 starts-so s r done h = rw (eqb-self r.seq) tt
-starts-so s r refused h = still-configured s r h
-starts-so s r (happened x) h = still-configured s r h
+starts-so s r (refused why) h = still-configured s r (failing s r Debuggee why) h
+starts-so s r (happened x) h = still-configured s r (failure Debuggee) h
 
 pub disconnects-so : (s : Session) (r : Entry) → IsSuccess (answer_to r.seq (after_disconnect s r).drafts)
 disconnects-so s r = rw (behind-others r.seq (failure Cancelled) (without r.seq s.kept) (reply r plain_success ∷ []) (contains_seq-without r.seq s.kept)) (succeeds-first r [])
 
 -- those that are parked
 
-replies-so : (body : Option Data) (last : Reply) → IsByReply last (Some (by_reply body last))
-replies-so body done = tt
-replies-so body refused = refl
-replies-so body (happened h) = refl
+replies-so : (s : Session) (parked : List Kept) (last : Reply) → IsByReply s parked last (Some (by_reply_each s parked last))
+replies-so s parked done = tt
+replies-so s parked (refused why) = refl
+replies-so s parked (happened h) = refl
 
 among-if : (b c : Bool) (answer : Answer) (later : Option Answer) → (b || c) ≡ true → (c ≡ true → later ≡ Some answer) → (let out : Option Answer = (if b then Some answer else later) in out) ≡ Some answer
 among-if true c answer later h k = refl
@@ -288,19 +288,22 @@ not-among : (seq : ℕ) (before : List Kept) (k : Kept) (after : List Kept) → 
 not-among seq before k after h =
     false-left (k.entry.seq == seq) (contains_seq seq after) (false-right (contains_seq seq before) (contains_seq seq (k ∷ after)) (sym (contains-append seq before (k ∷ after)) ∙ h))
 
-each-replied : (r : Entry) (last : Reply) (before ks : List Kept) → contains_seq r.seq (before ++ ks) ≡ false
-    → AllByRecursion (λ k. IsByReply last (answer_to k.entry.seq (reply r plain_success ∷ answer_each (by_reply None last) (before ++ ks)))) ks
-each-replied r last before [] h = tt
-each-replied r last before (k ∷ ks) h =
+each-replied : (s : Session) (parked : List Kept) (r : Entry) (last : Reply) (before ks : List Kept) → contains_seq r.seq (before ++ ks) ≡ false
+    → AllByRecursion (λ k. IsByReply s parked last (answer_to k.entry.seq (reply r plain_success ∷ answer_each (by_reply_each s parked last) (before ++ ks)))) ks
+each-replied s parked r last before [] h = tt
+each-replied s parked r last before (k ∷ ks) h =
+    let answer = by_reply_each s parked last in
     let other : (r.seq == k.entry.seq) ≡ false = same-seq k.entry.seq r.seq (not-among r.seq before k ks h) in
     let moved : (before ++ k ∷ []) ++ ks ≡ before ++ k ∷ ks = append_assoc before (k ∷ []) ks in
-    let rest = each-replied r last (before ++ k ∷ []) ks (rw moved h) in (
-      rw (other, among-others k.entry.seq (by_reply None last) (before ++ k ∷ ks) (middle-contained before k ks)) (replies-so None last),
-      subst (λ (xs : List Kept). AllByRecursion (λ (x : Kept). IsByReply last (answer_to x.entry.seq (reply r plain_success ∷ answer_each (by_reply None last) xs))) ks) moved rest,
+    let rest = each-replied s parked r last (before ++ k ∷ []) ks (rw moved h) in (
+      rw (other, among-others k.entry.seq answer (before ++ k ∷ ks) (middle-contained before k ks)) (replies-so s parked last),
+      subst (λ (xs : List Kept). AllByRecursion (λ (x : Kept). IsByReply s parked last (answer_to x.entry.seq (reply r plain_success ∷ answer_each answer xs))) ks) moved rest,
     )
 
 pub starts-parked-so : (s : Session) (r : Entry) (last : Reply) → IsAnswered effect.StartParked s r last (after_parked_launch s r last)
-starts-parked-so s r last = (succeeds-first r (answer_each (by_reply None last) (parked_ones (without r.seq s.kept))), each-replied r last [] (parked_ones (without r.seq s.kept)) (parked-apart r.seq (without r.seq s.kept) (contains_seq-without r.seq s.kept)))
+starts-parked-so s r last =
+    let parked = parked_ones (without r.seq s.kept) in
+    (succeeds-first r (answer_parked s parked last), each-replied s parked r last [] parked (parked-apart r.seq (without r.seq s.kept) (contains_seq-without r.seq s.kept)))
 
 -- a terminal
 

@@ -97,7 +97,7 @@ happening-keeps first s (happening.Exited code) before h = refl
 
 reply-keeps : (first : State) (s : Session) (before : State) (last : Reply) → IsStateOf first s.phase before → IsStateOf first (after_poll_reply s last).after.phase (state_after before to_poll last)
 reply-keeps first s before done h = h
-reply-keeps first s before refused h = h
+reply-keeps first s before (refused why) h = h
 reply-keeps first s before (happened x) h = happening-keeps first s x before h
 
 polled-keeps : (first : State) (b : Bool) (s : Session) → KeepsState first s (let plan : Plan = (if b then asking to_poll (after_poll_reply s) else at_once (no_change s)) in plan)

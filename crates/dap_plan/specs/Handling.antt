@@ -1,7 +1,7 @@
 -- How a kept request is handled: what the debuggee is asked, what is written, what is left.
 -- Overview, "Initialization" to "Debug session end"; the responses of the Specification. What of this the protocol leaves open is this profile's choice.
 use Rattle.std.specs.Prelude.{ℕ, ◌+◌, ◌-◌, List, [], ◌∷◌, ◌++◌, length, map, Bool, true, false, nat_le, Option, Some, None, option_map, option_and_then, unwrap_or, codes, bytes_eq, ◌&&◌, Result, Ok, Err, if◌then◌else◌}
-use Rattle.std.specs.List.{zip, range_with_len, list_any}
+use Rattle.std.specs.List.{zip, range_with_len, list_all, list_any}
 use Rattle.serde_json.specs.Data.{Data}
 use Rattle.dap_json.specs.Field.{text_at}
 use Rattle.dap_call.specs.Argument.{Read}
@@ -19,7 +19,7 @@ use Rattle.dap_call.specs.declared.call.SetVariable.{SetVariable}
 use Rattle.dap_command.specs.declared.source_key.SourceKey.{SourceKey}
 use Rattle.dap_tables.specs.Outstanding.{Kept, without, with_mark}
 use Rattle.dap_tables.specs.declared.entry.Entry.{Entry}
-use Rattle.dap_debuggee.specs.Shown.{Shown, Act, to_start, to_resume, to_pause, to_set_breakpoints, to_assign, to_end, Reply, done, Query, for_frames, for_scopes, for_children, for_value, for_assigned, for_content, for_verified}
+use Rattle.dap_debuggee.specs.Shown.{Shown, Act, to_start, to_resume, to_pause, to_set_breakpoints, to_assign, to_end, Reply, done, reason_of, Query, for_frames, for_scopes, for_children, for_value, for_assigned, for_content, for_verified}
 use Rattle.dap_debuggee.specs.declared.answers.Assigned.{Assigned}
 use Rattle.dap_debuggee.specs.declared.answers.How.{How}
 use Rattle.dap_debuggee.specs.declared.explanation.Explanation.{Explanation}
@@ -57,12 +57,47 @@ after_initialize s r asked = record {
   after = record s { phase = Ready; options = options_of asked; kept = without r.seq s.kept; used = s.used + 2 };
 }
 
+-- ---- what has to fit a message
+
+-- the response has at most as many bytes as a body may have
+abbrev pub fits : Session → Entry → Option Data → Bool
+fits s r body = nat_le (length (canon (success_response (s.used + 1) r.seq r.command body))) s.limits.body
+
+-- so has the failure with this reason, where it has this own number
+abbrev pub fits_explained_as : ℕ → Session → Entry → Explanation → Bool
+fits_explained_as seq s r told = nat_le (length (canon (explained_response seq r.seq r.command told.show_user told.text))) s.limits.body
+
+abbrev pub fits_explained : Session → Entry → Explanation → Bool
+fits_explained s r told = fits_explained_as (s.used + 1) s r told
+
+abbrev pub explained_if : Bool → Explanation → Answer
+explained_if fits told = if fits then explained told else failure Debuggee
+
+-- a failure: what the debuggee refused with the reason that it gives, where it gives one and that fits; any other without
+abbrev pub failing : Session → Entry → Failure → Option Explanation → Answer
+failing s r Debuggee (Some told) = explained_if (fits_explained s r told) told
+failing s r f _ = failure f
+
+-- The same of what is parked, which is answered alike: the reason is given where it fits in the answer to each of them, whatever
+-- own number that has.
+abbrev pub fits_explained_each : Session → List Kept → Explanation → Bool
+fits_explained_each s parked told = list_all (λ k. fits_explained_as s.limits.seq s k.entry told) parked
+
+abbrev pub failing_each : Session → List Kept → Option Explanation → Answer
+failing_each s parked None = failure Debuggee
+failing_each s parked (Some told) = explained_if (fits_explained_each s parked told) told
+
 -- ---- launch, attach and configurationDone
 
--- a success with this body where the debuggee did what it was asked
-abbrev pub by_reply : Option Data → Reply → Answer
-by_reply body done = success body []
-by_reply body _ = failure Debuggee
+-- a success without a body where the debuggee did what it was asked; else the failure, with the reason that it gives
+abbrev pub by_reply : Session → Entry → Reply → Answer
+by_reply s r done = plain_success
+by_reply s r last = failing s r Debuggee (reason_of last)
+
+-- the same of what is parked
+abbrev pub by_reply_each : Session → List Kept → Reply → Answer
+by_reply_each s parked done = plain_success
+by_reply_each s parked last = failing_each s parked (reason_of last)
 
 abbrev pub start_phase : Reply → Phase
 start_phase done = Running
@@ -73,7 +108,7 @@ after_park s r = record { drafts = []; drops = false; after = record s { phase =
 
 abbrev pub after_launch : Session → Entry → Reply → Made
 after_launch s r last = record {
-  drafts = reply r (by_reply None last) ∷ [];
+  drafts = reply r (by_reply s r last) ∷ [];
   drops = false;
   after = record s { phase = start_phase last; kept = without r.seq s.kept; used = s.used + 1 };
 }
@@ -84,10 +119,14 @@ after_configuration_done s r = record { drafts = reply r plain_success ∷ []; d
 abbrev pub answer_each : Answer → List Kept → List Draft
 answer_each answer kept = map (λ k. reply k.entry answer) kept
 
+-- what is parked is answered by the reply
+abbrev pub answer_parked : Session → List Kept → Reply → List Draft
+answer_parked s parked last = answer_each (by_reply_each s parked last) parked
+
 -- the request is answered, then what was parked
 abbrev pub after_parked_launch : Session → Entry → Reply → Made
 after_parked_launch s r last = record {
-  drafts = reply r plain_success ∷ answer_each (by_reply None last) (parked_ones (without r.seq s.kept));
+  drafts = reply r plain_success ∷ answer_parked s (parked_ones (without r.seq s.kept)) last;
   drops = false;
   after = record s { phase = start_phase last; kept = unparked_ones (without r.seq s.kept); used = s.used + (1 + length (parked_ones (without r.seq s.kept))) };
 }
@@ -166,25 +205,9 @@ after_resume h s r done = record {
   drops = true;
   after = record s { phase = Running; kept = without r.seq s.kept; references = without_references s.references; used = s.used + 1 };
 }
-after_resume h s r _ = after_answering r (failure Debuggee) s
+after_resume h s r last = after_answering r (failing s r Debuggee (reason_of last)) s
 
--- ---- what has to fit a message
-
--- the response has at most as many bytes as a body may have
-abbrev pub fits : Session → Entry → Option Data → Bool
-fits s r body = nat_le (length (canon (success_response (s.used + 1) r.seq r.command body))) s.limits.body
-
--- so has the failure with this reason
-abbrev pub fits_explained : Session → Entry → Explanation → Bool
-fits_explained s r told = nat_le (length (canon (explained_response (s.used + 1) r.seq r.command told.show_user told.text))) s.limits.body
-
-abbrev pub explained_if : Bool → Explanation → Answer
-explained_if fits told = if fits then explained told else failure Debuggee
-
--- a failure: what the debuggee refused with the reason that it gives, where it gives one and that fits; any other without
-abbrev pub failing : Session → Entry → Failure → Option Explanation → Answer
-failing s r Debuggee (Some told) = explained_if (fits_explained s r told) told
-failing s r f _ = failure f
+-- ---- queries
 
 -- nothing is given where it would be too large; where the debuggee refuses, this is why
 abbrev pub after_query : Session → Entry → Option Explanation → QueryResult → Made
@@ -308,7 +331,7 @@ plan_for effect.EndAndDisconnect view s r asked = asking to_end (λ last. after_
 plan_for effect.Terminate view s r asked = asking to_end (λ last. after_terminate s r)
 plan_for effect.Change view s r asked = after_change s r (change_reason view s asked) (change_result view s asked)
 plan_for (effect.Resume h) view s r asked = asking (to_resume h (thread_of asked)) (after_resume h s r)
-plan_for effect.Pause view s r asked = asking to_pause (λ last. after_answering r (by_reply None last) s)
+plan_for effect.Pause view s r asked = asking to_pause (λ last. after_answering r (by_reply s r last) s)
 plan_for effect.Query view s r asked = at_once (after_query s r (query_reason view s asked) (query_result view (query_of s) asked))
 
 -- ---- a request, and a turn

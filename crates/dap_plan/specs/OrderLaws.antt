@@ -10,11 +10,11 @@ use Rattle.dap_command.specs.declared.command.Command.{Command}
 use Rattle.dap_body.specs.declared.failure.Failure.{Failure}
 use Rattle.dap_body.specs.declared.failure.Failure.TheVariants.{NotInitialized, AlreadyInitialized, UnknownCommand, Unsupported, BadArguments, WrongPhase, NotStopped, UnknownThread, StaleReference, UnknownSource, Debuggee, TooManyBreakpoints, TooManyReferences, ReferencesExhausted, TooLarge}
 use Rattle.dap_command.specs.declared.key.Key.{Key}
-use Rattle.dap_tables.specs.Outstanding.{parked_ones, with_mark, without}
+use Rattle.dap_tables.specs.Outstanding.{Kept, parked_ones, with_mark, without}
 use Rattle.dap_tables.specs.declared.entry.Entry.{Entry}
 use Rattle.dap_tables.specs.declared.target.Target.{Target}
 use Rattle.dap_debuggee.specs.declared.explanation.Explanation.{Explanation}
-use Rattle.dap_debuggee.specs.Shown.{Shown, Act, to_start, to_resume, to_pause, to_set_breakpoints, to_assign, to_end, Reply, done}
+use Rattle.dap_debuggee.specs.Shown.{Shown, Act, to_start, to_resume, to_pause, to_set_breakpoints, to_assign, to_end, Reply, done, reason_of}
 use Rattle.dap_decision.specs.declared.effect.Effect.{Effect}
 use Rattle.dap_decision.specs.declared.effect.Effect.TheVariants as effect
 use Rattle.dap_decision.specs.declared.phase.Phase.{Phase}
@@ -26,7 +26,7 @@ use Rattle.dap_query.specs.Refused.{refuses_query, objects_named}
 use Rattle.dap_plan.specs.Breakpoints.{are_too_many}
 use Rattle.dap_decision.specs.Failures.{command_of, call_in, of_known, is_early, is_initialize, waits_for_stop, lacks_thread, thread_named, lacks_reference, reference_named, lacks_source, source_named}
 use Rattle.dap_plan.specs.Handling.{refusal}
-use Rattle.dap_plan.specs.Handling.{ChangeResult, change_result, plan, fits, lines_asked, failing, query_reason, change_reason, after_park, effect_of}
+use Rattle.dap_plan.specs.Handling.{ChangeResult, change_result, plan, fits, lines_asked, failing, failing_each, query_reason, change_reason, after_park, effect_of}
 use Rattle.dap_decision.specs.Failures.{thread_of}
 use Rattle.dap_plan.specs.Plan.{Made, Plan, at_once, asking, after_answering}
 use Rattle.dap_outbox.specs.Draft.{Answer, success, failure, Draft, reply, emit, ask, requests_in}
@@ -186,15 +186,19 @@ abbrev pub IsSuccess : Option Answer → Type 0
 IsSuccess (Some (success body names)) = ⊤
 IsSuccess _ = ⊥
 
--- a success where the debuggee did what it was asked, else the failure `debuggee`
-abbrev pub IsByReply : Reply → Option Answer → Type 0
-IsByReply done answer = IsSuccess answer
-IsByReply _ answer = answer ≡ Some (failure Debuggee)
+-- a success where the debuggee did what it was asked, else the failure `debuggee`, with the reason that it gives where that fits in the answer to each of those that are parked
+abbrev pub IsByReply : Session → List Kept → Reply → Option Answer → Type 0
+IsByReply s parked done answer = IsSuccess answer
+IsByReply s parked last answer = answer ≡ Some (failing_each s parked (reason_of last))
 
--- the same of a request that is answered alone: where the debuggee refuses, nothing else is done
+-- the same of a request that is answered alone: where the debuggee refuses, nothing else is done, and the reason is given where it fits there
 abbrev pub IsDoneOrRefused : Session → Entry → Reply → Made → Type 0
 IsDoneOrRefused s r done m = IsSuccess (answer_to r.seq m.drafts)
-IsDoneOrRefused s r _ m = m ≡ after_answering r (failure Debuggee) s
+IsDoneOrRefused s r last m = m ≡ after_answering r (failing s r Debuggee (reason_of last)) s
+
+-- each of those that are parked is answered by the reply
+abbrev pub AreAnswered : Session → List Kept → Reply → Made → Type 0
+AreAnswered s parked last m = AllByRecursion (λ k. IsByReply s parked last (answer_to k.entry.seq m.drafts)) parked
 
 -- just one own request is written, which asks for a terminal, and its answer is waited for
 pub record AsksTerminal (s : Session) (m : Made) : Type 0 where
@@ -224,7 +228,7 @@ IsAnswered effect.AskParked s r last m = AnswersAndAsks s r m
 IsAnswered effect.Start s r last m = IsDoneOrRefused s r last m
 IsAnswered (effect.Resume how) s r last m = IsDoneOrRefused s r last m
 IsAnswered effect.Pause s r last m = IsDoneOrRefused s r last m
-IsAnswered effect.StartParked s r last m = IsSuccess (answer_to r.seq m.drafts) × AllByRecursion (λ k. IsByReply last (answer_to k.entry.seq m.drafts)) (parked_ones (without r.seq s.kept))
+IsAnswered effect.StartParked s r last m = IsSuccess (answer_to r.seq m.drafts) × AreAnswered s (parked_ones (without r.seq s.kept)) last m
 IsAnswered _ s r last m = IsSuccess (answer_to r.seq m.drafts)
 
 -- the command is served by an effect of the table, unless a terminal is asked for first: the debuggee is asked what that effect asks, and this comes of it

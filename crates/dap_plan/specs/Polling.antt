@@ -36,7 +36,7 @@ after_happening (happening.Exited code) s = record {
 abbrev pub after_poll_reply : Session → Reply → Made
 after_poll_reply s (happened h) = after_happening h s
 after_poll_reply s done = no_change s
-after_poll_reply s refused = no_change s
+after_poll_reply s (refused why) = no_change s
 
 abbrev pub has_debuggee : Phase → Bool
 has_debuggee phase = is_phase Running phase || is_phase Stopped phase

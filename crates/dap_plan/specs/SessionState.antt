@@ -1,12 +1,12 @@
 -- A session with its debuggee, one step of it, and what the three calls are made of.
-use Rattle.std.specs.Prelude.{◌≡◌, ℕ, ◌+◌, ◌≤◌, ◌<◌, ⊤, List, [], ◌∷◌, ◌++◌, length, Bool, true, false, IsTrue, Option, Some, None, Result, Ok, Err}
+use Rattle.std.specs.Prelude.{◌≡◌, ℕ, ◌+◌, ◌≤◌, ◌<◌, ⊤, List, [], ◌∷◌, ◌++◌, length, IsTrue, Option, Some, None, Result, Ok, Err}
 use Rattle.dap_frame.specs.Settings.{Settings}
 use Rattle.dap_command.specs.declared.offer.Offer.{Offer}
 use Rattle.dap_tables.specs.Outstanding.{Kept, KeptRequests, IsOrderlyRequests, without}
 use Rattle.dap_tables.specs.Breakpoints.{BreakpointTable}
 use Rattle.dap_tables.specs.Seq.{Numbers}
 use Rattle.dap_tables.specs.declared.entry.Entry.{Entry}
-use Rattle.dap_debuggee.specs.Shown.{Shown, Reply, done, refused, to_end}
+use Rattle.dap_debuggee.specs.Shown.{Shown, to_end}
 use Rattle.dap_decision.specs.declared.decision.Decision.{Decision}
 use Rattle.dap_decision.specs.declared.decision.Decision.TheVariants.{Refuses, Serves}
 use Rattle.dap_plan.specs.declared.fault.AdapterFault.{AdapterFault}
@@ -53,11 +53,6 @@ pub record MadeBy (m : Made) (old new : Session) (bytes : List ℕ) : Type 0 whe
 abbrev pub plan_of_decision : Decision → Shown → Session → Entry → Plan
 plan_of_decision (Refuses f) view s r = at_once (after_answering r (failure f) s)
 plan_of_decision (Serves e asked) view s r = plan_for e view s r asked
-
--- the reply of an act that was done, or refused
-abbrev pub reply_of : Bool → Reply
-reply_of true = done
-reply_of false = refused
 
 -- a plan was carried out, and these bytes say so
 pub record Carries {D : Type 0} (follows : Goes D) (plan : Plan) (old new : SessionState D) (bytes : List ℕ) : Type 0 where

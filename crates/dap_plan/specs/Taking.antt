@@ -20,7 +20,7 @@ use Rattle.dap_decision.specs.declared.phase.Phase.TheVariants.{Fresh, Asked, En
 use Rattle.dap_plan.specs.declared.fault.AdapterFault.{AdapterFault}
 use Rattle.dap_plan.specs.declared.fault.AdapterFault.TheVariants.{RepeatedSeq, Unmatched, CommandMismatch, Ended as EndedFault}
 use Rattle.dap_decision.specs.Failures.{command_of, of_known}
-use Rattle.dap_plan.specs.Handling.{answer_each, by_reply, start_phase}
+use Rattle.dap_plan.specs.Handling.{answer_each, answer_parked, start_phase}
 use Rattle.dap_plan.specs.Plan.{Made, Plan, at_once, asking, no_change, plan_within_numbers}
 use Rattle.dap_outbox.specs.Draft.{Answer, failure, plain_success, reply}
 use Rattle.dap_plan.specs.Session.{Session, cancelled_by, not_cancelled_by, is_asked}
@@ -94,7 +94,7 @@ takes_request r s =
 -- what was parked is answered, as the debuggee started or not
 abbrev pub after_terminal : Session → Reply → Made
 after_terminal s last = record {
-  drafts = answer_each (by_reply None last) (parked_ones s.kept);
+  drafts = answer_parked s (parked_ones s.kept) last;
   drops = false;
   after = record s { phase = start_phase last; kept = unparked_ones s.kept; asked = None; used = s.used + length (parked_ones s.kept) };
 }
@@ -103,10 +103,10 @@ after_terminal s last = record {
 abbrev pub after_late_terminal : Session → Made
 after_late_terminal s = record { drafts = []; drops = false; after = record s { asked = None } }
 
--- a success lets the debuggee start
+-- a success lets the debuggee start; without one it is not asked, and nobody says why
 abbrev pub plan_of_terminal : Bool → Session → Plan
 plan_of_terminal true s = asking to_start (after_terminal s)
-plan_of_terminal false s = at_once (after_terminal s refused)
+plan_of_terminal false s = at_once (after_terminal s (refused None))
 
 abbrev pub plan_of_response : Bool → Session → Plan
 plan_of_response ok s = if is_phase Asked s.phase then plan_of_terminal ok s else at_once (after_late_terminal s)

@@ -1,9 +1,11 @@
 -- What holds of every recording, and what a moment of it is.
 -- The format is this profile's own.
-use Rattle.std.specs.Prelude.{◌≡◌, ℕ, suc, ◌≤◌, ◌<◌, ℤ, pos, Bool, true, ◌&&◌, nat_le, nat_lt, nat_eq, not, List, [], ◌∷◌, ◌++◌, length, map, Option, Some, option_map, option_and_then, unwrap_or, IsTrue, if◌then◌else◌}
+use Rattle.std.specs.Prelude.{◌≡◌, ℕ, suc, ◌≤◌, ◌<◌, ℤ, pos, Bool, true, ◌&&◌, nat_le, nat_lt, nat_eq, not, List, [], ◌∷◌, ◌++◌, length, map, codes, Option, Some, None, option_map, option_and_then, unwrap_or, IsTrue, if◌then◌else◌}
 use Rattle.std.specs.List.{list_all, slice_get, flat_map, count_by}
 use Rattle.std.specs.Option.{option_to_list}
 use Rattle.std.specs.Ordering.{int_eq}
+use Rattle.serde_json.specs.Data.{string}
+use Rattle.dap_json.specs.declared.more.Member.{Member}
 use Rattle.dap_command.specs.Numbers.{is_int}
 use Rattle.dap_debuggee.specs.Laws.{is_frame}
 use Rattle.dap_debuggee.specs.declared.answers.Frame.{Frame}
@@ -69,6 +71,15 @@ is_short_text most text = unwrap_or (option_map (λ t. nat_le (length t) most) t
 
 abbrev pub is_short_stop : OwnStop → Bool
 is_short_stop stop = nat_le (length stop.reason) 64 && (is_short_text 128 stop.description && is_short_text 128 stop.text)
+
+-- a member that is a text, where there is one
+abbrev pub text_beside : List ℕ → Option (List ℕ) → List Member
+text_beside key None = []
+text_beside key (Some text) = record { key = key; value = string text } ∷ []
+
+-- what is said beside the reason of a stop, in the order of keys: Specification, "StoppedEvent"
+abbrev pub beside_stop : OwnStop → List Member
+beside_stop stop = text_beside (codes "description") stop.description ++ text_beside (codes "text") stop.text
 
 abbrev pub has_short_stop : Moment → Bool
 has_short_stop m = unwrap_or (option_map is_short_stop m.stop) true

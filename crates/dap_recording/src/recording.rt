@@ -6,8 +6,10 @@ ghost use Rattle.std.specs.Prelude.{◌≡◌, IfOk};
 
 use crate::sources::Sources;
 use dap_debuggee::{Frame, Scope, Variable};
+use dap_json::members::put_optional_text;
 use dap_json::{List, More, Text};
-use std::alloc::AllocError;
+use serde_json::{Map, Value};
+use std::alloc::{AllocError, Global};
 
 #[derive(Debug, Drop)]
 pub struct RecordedSource {
@@ -105,6 +107,24 @@ fn copied(text: &Option<Text>) -> Result<Option<Text>, AllocError>
     match text {
         None => Ok(None),
         Some(text) => Ok(Some(text.clone()?)),
+    }
+}
+
+impl OwnStop {
+    ghost use Rattle.std.specs.Prelude.{◌≡◌, IfOk};
+    ghost use Rattle.dap_recording.specs.Recording.{beside_stop};
+
+    /// What is said beside the reason: Specification, "StoppedEvent".
+    pub fn beside(&self, alloc: Global) -> Result<More, AllocError>
+        ensures { IfOk result (λ more. more ≡ beside_stop self.now) }
+    {
+        let mut members = Map::new(alloc);
+        put_optional_text(alloc, &mut members, "description", &self.description)?;
+        put_optional_text(alloc, &mut members, "text", &self.text)?;
+        match More::of(alloc, &Value::Object(members))? {
+            Some(more) => Ok(more),
+            None => unreachable!(),
+        }
     }
 }
 

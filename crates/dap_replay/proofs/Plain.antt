@@ -2,7 +2,7 @@
 use Rattle.std.proofs.Common.{◌≡◌, ℕ, zero, suc, Bool, true, false, not, ◌||◌, ◌&&◌, nat_le, nat_lt, List, [], ◌∷◌, drop, Option, Some, None, is_some, option_map, unwrap_or, if◌then◌else◌, pos, ◌+◌, refl, ap, ◌∙◌}
 use Rattle.std.proofs.lemmas.Bool.{and_parts}
 use Rattle.std.specs.List.{list_all, slice_get}
-use Rattle.dap_recording.specs.Recording.{depth, id_at}
+use Rattle.dap_recording.specs.Recording.{depth, id_at, beside_stop}
 use Rattle.dap_replay.specs.Moves.{Lines, has_stop, first_place, least_after, next_stop, is_at_breakpoint, depth_at, reason_of, reason_text, move_to, target, plain_stop, stop_told, stop_at}
 use Rattle.dap_replay.specs.PlainMoves.{HasNoStops, plain_target, PlaysWithoutStops}
 use Rattle.dap_replay.proofs.Ranges.{all_at}
@@ -64,5 +64,5 @@ stop_same ms move none = told_at (slice_get ms move.to) move (λ m is. all_at (�
 pub plays_without_stops : PlaysWithoutStops
 plays_without_stops sources ms lines how i move none = (
   ap (λ n. move_to ms how i n (reason_of sources ms lines how i)) (target_same sources ms lines how i (depth_at i ms) none),
-  ap (λ (stop : OwnStop). happening.Stopped stop.reason (unwrap_or (option_map id_at (slice_get ms move.to)) (pos 0)) []) (stop_same ms move none),
+  ap (λ (stop : OwnStop). happening.Stopped stop.reason (unwrap_or (option_map id_at (slice_get ms move.to)) (pos 0)) (beside_stop stop)) (stop_same ms move none),
 )

@@ -85,7 +85,7 @@ lines_of_the_request = (refl, refl)
 back : replies at_first (go StepIn ∷ to_poll ∷ go StepBack ∷ to_poll ∷ go StepBack ∷ to_poll ∷ []) ≡ done ∷ stopped (codes "step") ∷ done ∷ stopped (codes "step") ∷ done ∷ stopped (codes "step") ∷ []
 back = refl
 
-refusals : (replies fresh (go Next ∷ to_pause ∷ to_poll ∷ to_start ∷ to_start ∷ go Next ∷ []) ≡ refused ∷ refused ∷ nothing ∷ done ∷ refused ∷ refused ∷ []) × (replies at_first (to_pause ∷ to_start ∷ to_end ∷ to_start ∷ go Next ∷ to_pause ∷ to_poll ∷ to_end ∷ []) ≡ refused ∷ refused ∷ done ∷ refused ∷ refused ∷ refused ∷ nothing ∷ done ∷ [])
+refusals : (replies fresh (go Next ∷ to_pause ∷ to_poll ∷ to_start ∷ to_start ∷ go Next ∷ []) ≡ refused None ∷ refused None ∷ nothing ∷ done ∷ refused None ∷ refused None ∷ []) × (replies at_first (to_pause ∷ to_start ∷ to_end ∷ to_start ∷ go Next ∷ to_pause ∷ to_poll ∷ to_end ∷ []) ≡ refused None ∷ refused None ∷ done ∷ refused None ∷ refused None ∷ refused None ∷ nothing ∷ done ∷ [])
 refusals = (refl, refl)
 
 -- ---- views
@@ -98,7 +98,7 @@ shown_on_the_way : ((view_after at_first (go Next ∷ [])).at ≡ 0) × ((view_a
 shown_on_the_way = (refl, refl)
 
 -- queries are no acts, and a refused act is one
-acts : ((shown_of at_first).acts ≡ 3) × ((shown_of (view_after fresh (go Next ∷ []))).acts ≡ 1) × ((shown_of (view_after fresh (go Next ∷ []))).last ≡ Some (record { asked = remembers.Resume Next (pos 1); reply = refused })) × ((shown_of at_first).last ≡ Some (record { asked = remembers.Poll; reply = stopped (codes "entry") }))
+acts : ((shown_of at_first).acts ≡ 3) × ((shown_of (view_after fresh (go Next ∷ []))).acts ≡ 1) × ((shown_of (view_after fresh (go Next ∷ []))).last ≡ Some (record { asked = remembers.Resume Next (pos 1); reply = refused None })) × ((shown_of at_first).last ≡ Some (record { asked = remembers.Poll; reply = stopped (codes "entry") }))
 acts = (refl, refl, refl, refl)
 
 abbrev worn : Played
@@ -243,7 +243,7 @@ set_inside = (refl, refl)
 
 -- lost where the debuggee goes on, also where it comes back to the moment; kept where it refuses
 lost_and_kept : ((shown_of (view_after x_is_9 (go StepIn ∷ to_poll ∷ go StepBack ∷ to_poll ∷ []))).evaluate (Some 0) (codes "x") ≡ Some (record { value = codes "1"; holder = None; more = [] })) × ((shown_of (view_after x_is_9 (go StepBack ∷ []))).evaluate (Some 0) (codes "x") ≡ Some (record { value = codes "1"; holder = None; more = [] }))
-    × ((shown_of (view_after at_first (go Next ∷ put 1 (codes "x") (codes "9") ∷ go Next ∷ []))).evaluate (Some 0) (codes "x") ≡ Some (record { value = codes "9"; holder = None; more = [] })) × ((view_after at_first (go Next ∷ put 1 (codes "x") (codes "9") ∷ go Next ∷ [])).last ≡ Some (record { asked = remembers.Resume Next (pos 1); reply = refused }))
+    × ((shown_of (view_after at_first (go Next ∷ put 1 (codes "x") (codes "9") ∷ go Next ∷ []))).evaluate (Some 0) (codes "x") ≡ Some (record { value = codes "9"; holder = None; more = [] })) × ((view_after at_first (go Next ∷ put 1 (codes "x") (codes "9") ∷ go Next ∷ [])).last ≡ Some (record { asked = remembers.Resume Next (pos 1); reply = refused None }))
 lost_and_kept = (refl, refl, refl, refl)
 
 abbrev twice : Played

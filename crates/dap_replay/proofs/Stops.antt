@@ -17,7 +17,7 @@ done-stays : (t : State) → ends_a_stop t done ≡ false
 done-stays Stopped = refl
 done-stays _ = refl
 
-refused-stays : (t : State) → ends_a_stop t refused ≡ false
+refused-stays : (t : State) → ends_a_stop t (refused None) ≡ false
 refused-stays Stopped = refl
 refused-stays _ = refl
 

@@ -4,9 +4,9 @@ use Rattle.std.specs.Prelude.{◌≡◌, ℕ, zero, suc, ◌+◌, ◌-◌, ◌%�
 use Rattle.std.specs.List.{slice_get}
 use Rattle.std.specs.Option.{IsSome}
 use Rattle.dap_command.specs.declared.source_key.SourceKey.{SourceKey}
-use Rattle.dap_debuggee.specs.Shown.{Shown, Act, to_start, to_resume, to_pause, to_poll, to_set_breakpoints, to_assign, to_end, Reply, done, refused, happened, asked_of_act, Last}
+use Rattle.dap_debuggee.specs.Shown.{Shown, Act, to_start, to_resume, to_pause, to_poll, to_set_breakpoints, to_assign, to_end, Reply, done, refused, happened, without_reason, asked_of_act, Last}
 use Rattle.dap_debuggee.specs.Laws.{variable_named, with_assigned}
-use Rattle.dap_recording.specs.Recording.{id_at}
+use Rattle.dap_recording.specs.Recording.{id_at, beside_stop}
 use Rattle.dap_recording.specs.Reading.{IsVerdict}
 pub use Rattle.dap_recording.specs.Pieces.{piece_length, first_piece}
 pub use Rattle.dap_recording.specs.Snapshot.{is_in, thread_shown}
@@ -77,7 +77,7 @@ output_of moments from to = map (λ m. m.output) (take (suc to - from) (drop fro
 -- ---- acts
 
 abbrev pub with_ask : Act → Reply → Played → Played
-with_ask a r v = record v { acts = (v.acts + 1) % 2 ^ 64; last = Some (record { asked = asked_of_act a; reply = r }) }
+with_ask a r v = record v { acts = (v.acts + 1) % 2 ^ 64; last = Some (record { asked = asked_of_act a; reply = without_reason r }) }
 
 abbrev pub run_from : ℕ → List (List ℕ) → Move → Played → Played
 run_from at output move v = record v { state = Running; at = at; run = Some (record { output = output; move = move; paused = false }) }
@@ -120,9 +120,9 @@ with_text name text xs = unwrap_or (option_map (λ a. with_assigned name a xs) (
 abbrev pub after_assign : ℕ → List ℕ → List ℕ → Played → Played
 after_assign holder name text v = with_changed (with_variables holder (with_text name text (unwrap_or (variables_held v holder) [])) v.changed) v
 
--- a stop at the end of a move, with the thread that stands there
+-- a stop at the end of a move, with the thread that stands there, and what the moment says beside
 abbrev pub stop_of : List Moment → Move → Happening
-stop_of moments move = happening.Stopped (stop_at moments move).reason (unwrap_or (option_map id_at (slice_get moments move.to)) (pos 0)) []
+stop_of moments move = happening.Stopped (stop_at moments move).reason (unwrap_or (option_map id_at (slice_get moments move.to)) (pos 0)) (beside_stop (stop_at moments move))
 
 -- the end of a run, once all is written: held, stopped or gone
 abbrev pub end_of_run : Run → Played → Happening × Played
@@ -148,15 +148,15 @@ with_source_lines key lines set = with_set key lines (of_others key set)
 -- the answer to an act and the view after it, before the act is counted
 abbrev pub start_in : State → Played → Reply × Played
 start_in NotStarted v = (done, after_start v)
-start_in _ v = (refused, v)
+start_in _ v = (refused None, v)
 
 abbrev pub resume_in : State → How → Played → Reply × Played
 resume_in Stopped how v = (done, after_resume how v)
-resume_in _ how v = (refused, v)
+resume_in _ how v = (refused None, v)
 
 abbrev pub pause_in : State → Option Run → Played → Reply × Played
 pause_in Running run v = (done, with_pause run v)
-pause_in _ _ v = (refused, v)
+pause_in _ _ v = (refused None, v)
 
 abbrev pub poll_in : Happening × Played → Reply × Played
 poll_in (h, v) = (happened h, v)

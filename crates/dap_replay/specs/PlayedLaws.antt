@@ -20,6 +20,7 @@ use Rattle.dap_debuggee.specs.declared.answers.How.{How}
 use Rattle.dap_debuggee.specs.declared.answers.Category.TheVariants.{Stdout}
 use Rattle.dap_debuggee.specs.declared.answers.Happening.{Happening}
 use Rattle.dap_debuggee.specs.declared.answers.Happening.TheVariants as happening
+use Rattle.dap_json.specs.declared.more.Member.{Member}
 use Rattle.dap_tables.specs.SourceMapLaws.{set-of-put}
 use Rattle.dap_recording.specs.Sources.{lines_verified}
 
@@ -27,15 +28,15 @@ use Rattle.dap_recording.specs.Sources.{lines_verified}
 
 data Row (v : Played) : Act → Reply → Played → Type 0 where
   starts : v.state ≡ NotStarted → Row v to_start done (after_start v)
-  does_not_start : Row v to_start refused v
+  does_not_start : Row v to_start (refused None) v
   resumes : (how : How) (thread : ℤ) → v.state ≡ Stopped → Row v (to_resume how thread) done (after_resume how v)
-  does_not_resume : (how : How) (thread : ℤ) → Row v (to_resume how thread) refused v
+  does_not_resume : (how : How) (thread : ℤ) → Row v (to_resume how thread) (refused None) v
   pauses : (run : Option Run) → v.state ≡ Running → Row v to_pause done (with_pause run v)
-  does_not_pause : Row v to_pause refused v
+  does_not_pause : Row v to_pause (refused None) v
   gives_nothing : Row v to_poll (happened happening.Nothing) v
   holds : (run : Run) → Row v to_poll (happened happening.Nothing) (with_run run v)
   tells : (piece : List ℕ) (run : Run) → v.state ≡ Running → Row v to_poll (happened (happening.Output Stdout piece [])) (with_run run v)
-  stops : (reason : List ℕ) (thread : ℤ) (at : ℕ) → v.state ≡ Running → Row v to_poll (happened (happening.Stopped reason thread [])) (at_rest Stopped at v)
+  stops : (reason : List ℕ) (thread : ℤ) (more : List Member) (at : ℕ) → v.state ≡ Running → Row v to_poll (happened (happening.Stopped reason thread more)) (at_rest Stopped at v)
   exits : (code : ℤ) → v.state ≡ Running → Row v to_poll (happened (happening.Exited code)) (at_rest Gone v.at v)
   sets : (source : SourceKey) (lines : List ℕ) → Row v (to_set_breakpoints source lines) done (with_lines (with_source_lines source lines v.set) v)
   assigns : (holder : ℕ) (name text : List ℕ) → Row v (to_assign holder name text) done (after_assign holder name text v)
@@ -67,7 +68,7 @@ either v true p q x y = x
 either v false p q x y = y
 
 arrived_row : (v : Played) (run : Run) → v.state ≡ Running → IsPoll v (end_of_run run v)
-arrived_row v run is = either v (run.move.held && not run.paused) _ _ (holds (record { output = []; move = run.move; paused = run.paused })) (either v (nat_lt run.move.to (length v.recording.moments)) _ _ (stops _ _ run.move.to is) (exits v.recording.exit is))
+arrived_row v run is = either v (run.move.held && not run.paused) _ _ (holds (record { output = []; move = run.move; paused = run.paused })) (either v (nat_lt run.move.to (length v.recording.moments)) _ _ (stops _ _ _ run.move.to is) (exits v.recording.exit is))
 
 ran_row : (v : Played) (run : Run) (piece : Option (List ℕ × List (List ℕ))) → v.state ≡ Running → IsPoll v (step_of_run run piece v)
 ran_row v run None is = arrived_row v run is
@@ -91,19 +92,19 @@ act_row v to_end = ends
 
 -- ---- in each state
 
-pub refused_start : (s : State) → may_answer s to_start refused ≡ true
+pub refused_start : (s : State) → may_answer s to_start (refused None) ≡ true
 refused_start NotStarted = refl
 refused_start Running = refl
 refused_start Stopped = refl
 refused_start Gone = refl
 
-refused_resume : (s : State) (how : How) (thread : ℤ) → may_answer s (to_resume how thread) refused ≡ true
+refused_resume : (s : State) (how : How) (thread : ℤ) → may_answer s (to_resume how thread) (refused None) ≡ true
 refused_resume NotStarted how thread = refl
 refused_resume Running how thread = refl
 refused_resume Stopped how thread = refl
 refused_resume Gone how thread = refl
 
-refused_pause : (s : State) → may_answer s to_pause refused ≡ true
+refused_pause : (s : State) → may_answer s to_pause (refused None) ≡ true
 refused_pause NotStarted = refl
 refused_pause Running = refl
 refused_pause Stopped = refl
@@ -139,7 +140,7 @@ start_state Running = refl
 start_state Stopped = refl
 start_state Gone = refl
 
-pub same_start : (s : State) → s ≡ state_after s to_start refused
+pub same_start : (s : State) → s ≡ state_after s to_start (refused None)
 same_start NotStarted = refl
 same_start Running = refl
 same_start Stopped = refl
@@ -151,7 +152,7 @@ resume_state Running how thread = refl
 resume_state Stopped how thread = refl
 resume_state Gone how thread = refl
 
-same_resume : (s : State) (how : How) (thread : ℤ) → s ≡ state_after s (to_resume how thread) refused
+same_resume : (s : State) (how : How) (thread : ℤ) → s ≡ state_after s (to_resume how thread) (refused None)
 same_resume NotStarted how thread = refl
 same_resume Running how thread = refl
 same_resume Stopped how thread = refl
@@ -172,11 +173,11 @@ same_output Running piece = refl
 same_output Stopped piece = refl
 same_output Gone piece = refl
 
-stop_state : (s : State) (reason : List ℕ) (thread : ℤ) → Stopped ≡ state_after s to_poll (happened (happening.Stopped reason thread []))
-stop_state NotStarted reason thread = refl
-stop_state Running reason thread = refl
-stop_state Stopped reason thread = refl
-stop_state Gone reason thread = refl
+stop_state : (s : State) (reason : List ℕ) (thread : ℤ) (more : List Member) → Stopped ≡ state_after s to_poll (happened (happening.Stopped reason thread more))
+stop_state NotStarted reason thread more = refl
+stop_state Running reason thread more = refl
+stop_state Stopped reason thread more = refl
+stop_state Gone reason thread more = refl
 
 exit_state : (s : State) (code : ℤ) → Gone ≡ state_after s to_poll (happened (happening.Exited code))
 exit_state NotStarted code = refl
@@ -214,7 +215,7 @@ acts_row v _ _ _ does_not_pause = refl
 acts_row v _ _ _ gives_nothing = refl
 acts_row v _ _ _ (holds run) = refl
 acts_row v _ _ _ (tells piece run is) = refl
-acts_row v _ _ _ (stops reason thread at is) = refl
+acts_row v _ _ _ (stops reason thread more at is) = refl
 acts_row v _ _ _ (exits code is) = refl
 acts_row v _ _ _ (sets source lines) = refl
 acts_row v _ _ _ (assigns holder name text) = refl
@@ -230,7 +231,7 @@ answer_row v _ _ _ does_not_pause = refused_pause v.state
 answer_row v _ _ _ gives_nothing = nothing_happens v.state
 answer_row v _ _ _ (holds run) = nothing_happens v.state
 answer_row v _ _ _ (tells piece run is) = rw is
-answer_row v _ _ _ (stops reason thread at is) = rw is
+answer_row v _ _ _ (stops reason thread more at is) = rw is
 answer_row v _ _ _ (exits code is) = rw is
 answer_row v _ _ _ (sets source lines) = sets_always v.state source lines
 answer_row v _ _ _ (assigns holder name text) = assigns_always v.state holder name text
@@ -242,11 +243,11 @@ state_row v _ _ _ does_not_start = same_start v.state
 state_row v _ _ _ (resumes how thread is) = resume_state v.state how thread
 state_row v _ _ _ (does_not_resume how thread) = same_resume v.state how thread
 state_row v _ _ _ (pauses run is) = same_pause v.state done
-state_row v _ _ _ does_not_pause = same_pause v.state refused
+state_row v _ _ _ does_not_pause = same_pause v.state (refused None)
 state_row v _ _ _ gives_nothing = same_nothing v.state
 state_row v _ _ _ (holds run) = same_nothing v.state
 state_row v _ _ _ (tells piece run is) = same_output v.state piece
-state_row v _ _ _ (stops reason thread at is) = stop_state v.state reason thread
+state_row v _ _ _ (stops reason thread more at is) = stop_state v.state reason thread more
 state_row v _ _ _ (exits code is) = exit_state v.state code
 state_row v _ _ _ (sets source lines) = same_sets v.state source lines
 state_row v _ _ _ (assigns holder name text) = same_assigns v.state holder name text
@@ -262,7 +263,7 @@ frames_row v _ _ _ does_not_pause keeps = record { frames = λ t. refl; scopes =
 frames_row v _ _ _ gives_nothing keeps = record { frames = λ t. refl; scopes = λ n. refl; children = λ n. refl }
 frames_row v _ _ _ (holds run) keeps = record { frames = λ t. refl; scopes = λ n. refl; children = λ n. refl }
 frames_row v _ _ _ (tells piece run is) keeps = record { frames = λ t. refl; scopes = λ n. refl; children = λ n. refl }
-frames_row v _ _ _ (stops reason thread at is) keeps = absurd (true≢false (sym keeps))
+frames_row v _ _ _ (stops reason thread more at is) keeps = absurd (true≢false (sym keeps))
 frames_row v _ _ _ (exits code is) keeps = absurd (true≢false (sym keeps))
 frames_row v _ _ _ (sets source lines) keeps = record { frames = λ t. refl; scopes = λ n. refl; children = λ n. refl }
 frames_row v _ _ _ (assigns holder name text) keeps = absurd (true≢false (sym keeps))
@@ -278,7 +279,7 @@ recording_row v _ _ _ does_not_pause = refl
 recording_row v _ _ _ gives_nothing = refl
 recording_row v _ _ _ (holds run) = refl
 recording_row v _ _ _ (tells piece run is) = refl
-recording_row v _ _ _ (stops reason thread at is) = refl
+recording_row v _ _ _ (stops reason thread more at is) = refl
 recording_row v _ _ _ (exits code is) = refl
 recording_row v _ _ _ (sets source lines) = refl
 recording_row v _ _ _ (assigns holder name text) = refl
@@ -294,7 +295,7 @@ threads_row v _ _ _ does_not_pause keeps = refl
 threads_row v _ _ _ gives_nothing keeps = absurd (true≢false (sym keeps))
 threads_row v _ _ _ (holds run) keeps = absurd (true≢false (sym keeps))
 threads_row v _ _ _ (tells piece run is) keeps = absurd (true≢false (sym keeps))
-threads_row v _ _ _ (stops reason thread at is) keeps = absurd (true≢false (sym keeps))
+threads_row v _ _ _ (stops reason thread more at is) keeps = absurd (true≢false (sym keeps))
 threads_row v _ _ _ (exits code is) keeps = absurd (true≢false (sym keeps))
 threads_row v _ _ _ (sets source lines) keeps = refl
 threads_row v _ _ _ (assigns holder name text) keeps = absurd (true≢false (sym keeps))
@@ -311,7 +312,7 @@ values_row v _ _ _ does_not_pause keeps frame text = refl
 values_row v _ _ _ gives_nothing keeps frame text = absurd (true≢false (sym keeps))
 values_row v _ _ _ (holds run) keeps frame text = absurd (true≢false (sym keeps))
 values_row v _ _ _ (tells piece run is) keeps frame text = absurd (true≢false (sym keeps))
-values_row v _ _ _ (stops reason thread at is) keeps frame text = absurd (true≢false (sym keeps))
+values_row v _ _ _ (stops reason thread more at is) keeps frame text = absurd (true≢false (sym keeps))
 values_row v _ _ _ (exits code is) keeps frame text = absurd (true≢false (sym keeps))
 values_row v _ _ _ (sets source lines) keeps None text = refl
 values_row v _ _ _ (sets source lines) keeps (Some frame) text = refl
@@ -328,7 +329,7 @@ assigned_row v _ _ _ does_not_pause keeps holder name text = refl
 assigned_row v _ _ _ gives_nothing keeps holder name text = absurd (true≢false (sym keeps))
 assigned_row v _ _ _ (holds run) keeps holder name text = absurd (true≢false (sym keeps))
 assigned_row v _ _ _ (tells piece run is) keeps holder name text = absurd (true≢false (sym keeps))
-assigned_row v _ _ _ (stops reason thread at is) keeps holder name text = absurd (true≢false (sym keeps))
+assigned_row v _ _ _ (stops reason thread more at is) keeps holder name text = absurd (true≢false (sym keeps))
 assigned_row v _ _ _ (exits code is) keeps holder name text = absurd (true≢false (sym keeps))
 assigned_row v _ _ _ (sets source lines) keeps holder name text = refl
 assigned_row v _ _ _ (assigns at called given) keeps holder name text = absurd (true≢false (sym keeps))
@@ -412,7 +413,7 @@ lines_row v _ _ _ does_not_pause key = refl
 lines_row v _ _ _ gives_nothing key = refl
 lines_row v _ _ _ (holds run) key = refl
 lines_row v _ _ _ (tells piece run is) key = refl
-lines_row v _ _ _ (stops reason thread at is) key = refl
+lines_row v _ _ _ (stops reason thread more at is) key = refl
 lines_row v _ _ _ (exits code is) key = refl
 lines_row v _ _ _ (sets source lines) key = set-of-put source key lines v.set
 lines_row v _ _ _ (assigns holder name text) key = refl

@@ -47,7 +47,7 @@ happening_of_poll r given.Exited = happening.Exited r.exit
 abbrev pub last_of : Recording → LastAsked → Option Last
 last_of r last.Never = None
 last_of r (last.Done asked) = Some (record { asked = asked; reply = done })
-last_of r (last.Refused asked) = Some (record { asked = asked; reply = refused })
+last_of r (last.Refused asked) = Some (record { asked = asked; reply = refused None })
 last_of r (last.Polled g) = Some (record { asked = Poll; reply = happened (happening_of_poll r g) })
 
 -- what is told of a moment's output is nothing, or ends a character

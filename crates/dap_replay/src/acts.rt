@@ -2,7 +2,7 @@
 
 use crate::recorded::{Going, LastAsked, Recorded};
 use dap_command::SourceKey;
-use dap_debuggee::{Asked, DebuggeeFault, How, State};
+use dap_debuggee::{ActFault, Asked, How, State};
 use dap_json::Text;
 use dap_recording::variables;
 use std::alloc::{AllocError, Global};
@@ -15,9 +15,9 @@ impl Recorded {
     ghost use Rattle.dap_replay.specs.Played.{FollowsPlayed, at_rest, with_source_lines, with_lines, after_assign, shown_of};
     ghost use Rattle.dap_replay.specs.PrivateHeld.{HasRun};
 
-    pub(crate) fn to_start(&mut self) -> Result<(), DebuggeeFault>
+    pub(crate) fn to_start(&mut self) -> Result<(), ActFault>
         ensures follows { Replies result (λ reply. FollowsPlayed self.old to_start reply self.new) }
-        ensures memory { IsErrOf result DebuggeeFault.OutOfMemory → ⊥ }
+        ensures memory { IsErrOf result ActFault.OutOfMemory → ⊥ }
     {
         match self.state {
             State::NotStarted => {
@@ -27,14 +27,14 @@ impl Recorded {
             }
             State::Running | State::Stopped | State::Gone => {
                 self.note(LastAsked::Refused(Asked::Start));
-                Err(DebuggeeFault::Refused)
+                Err(ActFault::Refused(None))
             }
         }
     }
 
-    pub(crate) fn to_resume(&mut self, how: How, thread: i64) -> Result<(), DebuggeeFault>
+    pub(crate) fn to_resume(&mut self, how: How, thread: i64) -> Result<(), ActFault>
         ensures follows { Replies result (λ reply. FollowsPlayed self.old (to_resume how thread) reply self.new) }
-        ensures memory { IsErrOf result DebuggeeFault.OutOfMemory → ⊥ }
+        ensures memory { IsErrOf result ActFault.OutOfMemory → ⊥ }
     {
         match self.state {
             State::Stopped => {
@@ -44,14 +44,14 @@ impl Recorded {
             }
             State::NotStarted | State::Running | State::Gone => {
                 self.note(LastAsked::Refused(Asked::Resume { how, thread }));
-                Err(DebuggeeFault::Refused)
+                Err(ActFault::Refused(None))
             }
         }
     }
 
-    pub(crate) fn to_pause(&mut self) -> Result<(), DebuggeeFault>
+    pub(crate) fn to_pause(&mut self) -> Result<(), ActFault>
         ensures follows { Replies result (λ reply. FollowsPlayed self.old to_pause reply self.new) }
-        ensures memory { IsErrOf result DebuggeeFault.OutOfMemory → ⊥ }
+        ensures memory { IsErrOf result ActFault.OutOfMemory → ⊥ }
     {
         match self.state {
             State::Running => {
@@ -66,7 +66,7 @@ impl Recorded {
             }
             State::NotStarted | State::Stopped | State::Gone => {
                 self.note(LastAsked::Refused(Asked::Pause));
-                Err(DebuggeeFault::Refused)
+                Err(ActFault::Refused(None))
             }
         }
     }

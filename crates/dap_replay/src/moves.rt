@@ -1,12 +1,14 @@
 //! Where a run of a recording goes: a walk over its moments.
-ghost use Rattle.std.specs.Prelude.{◌≡◌, ◌<◌, ◌≤◌, ◌||◌, length, option_map, IfSome};
-ghost use Rattle.dap_recording.specs.Recording.{depth as depth_of, top as top_of, id_at as thread_id_at};
-ghost use Rattle.dap_replay.specs.Moves.{reason_text, is_at_breakpoint as stands_at_breakpoint, is_forward as goes_forward, has_stop, stop_told};
+ghost use Rattle.std.specs.Prelude.{◌≡◌, ◌<◌, ◌≤◌, ◌||◌, length, option_map, unwrap_or, IfOk, IfSome};
+ghost use Rattle.dap_recording.specs.Recording.{depth as depth_of, top as top_of, id_at as thread_id_at, beside_stop};
+ghost use Rattle.dap_replay.specs.Moves.{reason_text, is_at_breakpoint as stands_at_breakpoint, is_forward as goes_forward, has_stop, plain_stop, stop_told};
 ghost use Rattle.dap_replay.specs.Played.{lines_in};
 
 use crate::set_lines::SetLines;
 use dap_debuggee::{Frame, How};
-use dap_recording::{Moment, RecordedSource};
+use dap_json::More;
+use dap_recording::{Moment, OwnStop, RecordedSource};
+use std::alloc::{AllocError, Global};
 
 /// Why a run stops, where the moment does not say why.
 #[derive(Clone, Copy, Debug, PartialEq, Eq)]
@@ -236,15 +238,32 @@ pub(crate) fn id_at(moment: &Moment) -> i64
     }
 }
 
+/// The stop of a moment itself, where the move comes to an end by it.
+fn own_stop(to: Move, moment: &Moment) -> Option<&OwnStop>
+    ensures { unwrap_or (option_map (λ stop. stop.now) result) (plain_stop (reason_text to.reason)) ≡ stop_told to moment.now }
+{
+    if !to.forward || to.held {
+        return None;
+    }
+    moment.stop.as_ref()
+}
+
 /// Why a run stops at a moment, at the end of a move.
 pub(crate) fn reason_told<'m>(to: Move, moment: &'m Moment) -> &'m str
     ensures { result.now ≡ (stop_told to moment.now).reason }
 {
-    if to.forward
-        && !to.held
-        && let Some(stop) = &moment.stop
-    {
-        return stop.reason.as_str();
+    match own_stop(to, moment) {
+        Some(stop) => stop.reason.as_str(),
+        None => to.reason.text(),
     }
-    to.reason.text()
+}
+
+/// What is said beside the reason.
+pub(crate) fn beside_told(alloc: Global, to: Move, moment: &Moment) -> Result<More, AllocError>
+    ensures { IfOk result (λ more. more ≡ beside_stop (stop_told to moment.now)) }
+{
+    match own_stop(to, moment) {
+        Some(stop) => stop.beside(alloc),
+        None => Ok(More::none()),
+    }
 }

@@ -38,12 +38,13 @@ impl Recorded {
         };
         let thread = moves::id_at(moment);
         let reason = Text::copied(alloc, moves::reason_told(to, moment))?;
+        let more = moves::beside_told(alloc, to, moment)?;
         self.rest(State::Stopped, to.to);
         self.note(LastAsked::Polled(LastPoll::Stopped { by: to }));
         Ok(Happening::Stopped {
             reason,
             thread,
-            more: More::none(),
+            more,
         })
     }
 

@@ -10,7 +10,7 @@ use crate::moves::{Move, Plan, Reason};
 use crate::set_lines::SetLines;
 use dap_command::SourceKey;
 use dap_debuggee::{
-    Asked, Assigned, Debuggee, DebuggeeFault, Evaluation, Explanation, Frame, Happening, How,
+    ActFault, Asked, Assigned, Debuggee, DebuggeeFault, Evaluation, Explanation, Frame, Happening, How,
     Placement, RefusedQuery, Scope, Source, State, Thread, Variable,
 };
 use dap_json::Text;
@@ -246,23 +246,23 @@ impl Debuggee for Recorded {
 
     ghost follows = { FollowsPlayed };
 
-    fn start(&mut self, _alloc: Global) -> Result<(), DebuggeeFault>
+    fn start(&mut self, _alloc: Global) -> Result<(), ActFault>
         ensures follows { Replies result (λ reply. FollowsPlayed self.old to_start reply self.new) }
-        ensures memory { IsErrOf result DebuggeeFault.OutOfMemory → ⊥ }
+        ensures memory { IsErrOf result ActFault.OutOfMemory → ⊥ }
     {
         self.to_start()
     }
 
-    fn resume(&mut self, _alloc: Global, how: How, thread: i64) -> Result<(), DebuggeeFault>
+    fn resume(&mut self, _alloc: Global, how: How, thread: i64) -> Result<(), ActFault>
         ensures follows { Replies result (λ reply. FollowsPlayed self.old (to_resume how thread) reply self.new) }
-        ensures memory { IsErrOf result DebuggeeFault.OutOfMemory → ⊥ }
+        ensures memory { IsErrOf result ActFault.OutOfMemory → ⊥ }
     {
         self.to_resume(how, thread)
     }
 
-    fn pause(&mut self, _alloc: Global) -> Result<(), DebuggeeFault>
+    fn pause(&mut self, _alloc: Global) -> Result<(), ActFault>
         ensures follows { Replies result (λ reply. FollowsPlayed self.old to_pause reply self.new) }
-        ensures memory { IsErrOf result DebuggeeFault.OutOfMemory → ⊥ }
+        ensures memory { IsErrOf result ActFault.OutOfMemory → ⊥ }
     {
         self.to_pause()
     }

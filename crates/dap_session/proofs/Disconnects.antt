@@ -7,7 +7,7 @@ use Rattle.dap_body.specs.declared.failure.Failure.TheVariants.{Cancelled}
 use Rattle.dap_tables.specs.Outstanding.{Kept, entries, contains_seq, is_parked, parked_ones, unparked_ones, without, HasDistinctSeqs}
 use Rattle.dap_tables.specs.declared.entry.Entry.{Entry}
 use Rattle.dap_debuggee.specs.Shown.{Reply}
-use Rattle.dap_plan.specs.Handling.{answer_each, by_reply, start_phase, after_disconnect, after_parked_launch}
+use Rattle.dap_plan.specs.Handling.{answer_each, answer_parked, by_reply_each, fits_explained_each, start_phase, after_disconnect, after_parked_launch}
 use Rattle.dap_tables.specs.References.{without_references}
 use Rattle.dap_decision.specs.declared.phase.Phase.TheVariants.{Ended}
 use Rattle.dap_plan.specs.declared.fault.AdapterFault.{AdapterFault}
@@ -17,10 +17,12 @@ use Rattle.dap_plan.specs.Plan.{Plan, messages_due}
 use Rattle.dap_outbox.specs.Draft.{Answer, Draft, failure, plain_success, reply}
 use Rattle.dap_plan.specs.Session.{Session}
 use Rattle.dap_plan.specs.Taking.{after_terminal}
-use Rattle.dap_outbox.specs.Several.{answer_where, WritesAll}
-use Rattle.dap_outbox.specs.Outbox.{OutboxState, Holds, AppendsDraft}
+use Rattle.dap_outbox.specs.Several.{answer_where, chosen_of, explanations_fit, WritesAll, WritesWithin}
+use Rattle.dap_outbox.specs.declared.several.Chosen.TheVariants.{Parked}
+use Rattle.dap_outbox.specs.Outbox.{OutboxState, Holds, AppendsDraft, explanation_fits_as}
+use Rattle.dap_debuggee.specs.declared.explanation.Explanation.{Explanation}
 use Rattle.dap_plan.proofs.Rows.{length-each}
-use Rattle.dap_session.proofs.SeveralAnswers.{answers-kept, others-kept, length-without, answers-parked, count-parked, parked-without}
+use Rattle.dap_session.proofs.SeveralAnswers.{answers-kept, others-kept, length-without, answers-parked, count-parked, all-parked, parked-without}
 
 -- how many messages a disconnect takes
 pub messages_due-after_disconnect : (s : Session) (r : Entry) → HasDistinctSeqs s.kept → contains_seq r.seq s.kept ≡ true → length (after_disconnect s r).drafts ≡ length s.kept
@@ -57,29 +59,48 @@ holds-after_disconnect s r fresh mid last limit h w v =
 -- how many a start takes that is waited for
 pub messages_due-started : (s : Session) (r : Entry) (last : Reply) → is_parked r.seq s.kept ≡ false → length (after_parked_launch s r last).drafts ≡ 1 + length (parked_ones s.kept)
 messages_due-started s r last h =
-    let each = length-each (by_reply None last) (parked_ones (without r.seq s.kept)) in
+    let parked = parked_ones (without r.seq s.kept) in
+    let each = length-each (by_reply_each s parked last) parked in
     let same = ap (λ (ks : List Kept). length ks) (parked-without r.seq s.kept h) in
     omega arith
 
-pub room-started : (kept : List Kept) (one : OutboxState) (limit used last : ℕ) (r : Entry) → HasDistinctSeqs kept → Holds one limit used (reply r plain_success ∷ []) → one.numbers.last ≡ last → used + (1 + length (parked_ones kept)) ≤ last → one.numbers.used + length (filter (λ (x : Entry). is_parked x.seq kept) (entries kept)) ≤ one.numbers.last
-room-started kept one limit used last r d h l room = let others = count-parked kept d in let count = h.count in omega arith
+-- those that are parked
 
-pub holds-started : (s : Session) (r : Entry) (last : Reply) (answer : Answer) (one all : OutboxState) (limit : ℕ) → HasDistinctSeqs s.kept → is_parked r.seq s.kept ≡ false → Holds one limit s.used (reply r plain_success ∷ []) → WritesAll one all (answer_where (λ seq. is_parked seq s.kept) answer (entries s.kept)) → Holds all limit s.used (reply r plain_success ∷ answer_each answer (parked_ones (without r.seq s.kept)))
-holds-started s r last answer one all limit d h o w =
-    subst (λ (ds : List Draft). Holds all limit s.used (reply r plain_success ∷ ds)) (answers-parked answer s.kept d ∙ ap (λ (ks : List Kept). answer_each answer ks) (sym (parked-without r.seq s.kept h))) (w.holds limit s.used (reply r plain_success ∷ []) o)
+pub room-parked : (kept : List Kept) (used last : ℕ) → HasDistinctSeqs kept → used + length (parked_ones kept) ≤ last → used + length (filter (λ (x : Entry). is_parked x.seq kept) (entries kept)) ≤ last
+room-parked kept used last d room = let others = count-parked kept d in omega arith
+
+pub within-alike : (s : Session) (answer : Answer) (old new : OutboxState) → HasDistinctSeqs s.kept → WritesAll old new (answer_where (λ seq. is_parked seq s.kept) answer (entries s.kept)) → WritesWithin s.limits.body old new (answer_each answer (parked_ones s.kept))
+within-alike s answer old new d w =
+    record { last = w.last; holds = λ limit used before fits h. subst (λ (ds : List Draft). Holds new limit used (before ++ ds)) (answers-parked answer s.kept d) (w.holds limit used before h) }
+
+pub within-explained : (s : Session) (most : ℕ) (answer : Answer) (old new : OutboxState) → most ≡ s.limits.body → HasDistinctSeqs s.kept → WritesWithin most old new (answer_where (λ seq. is_parked seq s.kept) answer (entries s.kept)) → WritesWithin s.limits.body old new (answer_each answer (parked_ones s.kept))
+within-explained s most answer old new is d w =
+    record { last = w.last; holds = λ limit used before fits h. subst (λ (ds : List Draft). Holds new limit used (before ++ ds)) (answers-parked answer s.kept d) (w.holds limit used before (omega arith) h) }
+
+pub fits-parked : (s : Session) (seq most : ℕ) (told : Explanation) → seq ≡ s.limits.seq → most ≡ s.limits.body → HasDistinctSeqs s.kept → explanations_fit seq most told (chosen_of Parked s.kept (entries s.kept)) ≡ fits_explained_each s (parked_ones s.kept) told
+fits-parked s seq most told n m d = all-parked (λ (r : Entry). explanation_fits_as seq most r told) s.kept d ∙ rw (n, m) refl
+
+pub room-started : (s : Session) (r : Entry) (one : OutboxState) (limit : ℕ) → Holds one limit s.used (reply r plain_success ∷ []) → one.numbers.last ≡ s.limits.seq → s.used + (1 + length (parked_ones s.kept)) ≤ s.limits.seq → one.numbers.used + length (parked_ones s.kept) ≤ one.numbers.last
+room-started s r one limit h l room = let count = h.count in omega arith
+
+pub holds-started : (s : Session) (r : Entry) (last : Reply) (one all : OutboxState) → is_parked r.seq s.kept ≡ false → Holds one s.limits.body s.used (reply r plain_success ∷ []) → WritesWithin s.limits.body one all (answer_parked s (parked_ones s.kept) last) → Holds all s.limits.body s.used (after_parked_launch s r last).drafts
+holds-started s r last one all h o w =
+    subst (λ (ks : List Kept). Holds all s.limits.body s.used (reply r plain_success ∷ answer_parked s ks last)) (sym (parked-without r.seq s.kept h)) (w.holds s.limits.body s.used (reply r plain_success ∷ []) (omega arith) o)
 
 pub count-started : (s : Session) (r : Entry) (last : Reply) → length (after_parked_launch s r last).drafts ≡ 1 + length (parked_ones (without r.seq s.kept))
-count-started s r last = let each = length-each (by_reply None last) (parked_ones (without r.seq s.kept)) in omega arith
+count-started s r last =
+    let parked = parked_ones (without r.seq s.kept) in
+    let each = length-each (by_reply_each s parked last) parked in omega arith
 
 -- how many an answer of the terminal takes
 pub count-terminal : (s : Session) (last : Reply) → length (after_terminal s last).drafts ≡ length (parked_ones s.kept)
-count-terminal s last = length-each (by_reply None last) (parked_ones s.kept)
+count-terminal s last = length-each (by_reply_each s (parked_ones s.kept) last) (parked_ones s.kept)
 
-pub room-terminal : (kept : List Kept) (fresh : OutboxState) (limit used last : ℕ) → HasDistinctSeqs kept → Holds fresh limit used [] → fresh.numbers.last ≡ last → used + length (parked_ones kept) ≤ last → fresh.numbers.used + length (filter (λ (x : Entry). is_parked x.seq kept) (entries kept)) ≤ fresh.numbers.last
-room-terminal kept fresh limit used last d h l room = let others = count-parked kept d in let count = h.count in omega arith
+pub room-terminal : (s : Session) (fresh : OutboxState) (limit : ℕ) → Holds fresh limit s.used [] → fresh.numbers.last ≡ s.limits.seq → s.used + length (parked_ones s.kept) ≤ s.limits.seq → fresh.numbers.used + length (parked_ones s.kept) ≤ fresh.numbers.last
+room-terminal s fresh limit h l room = let count = h.count in omega arith
 
-pub holds-terminal : (s : Session) (answer : Answer) (fresh all : OutboxState) (limit : ℕ) → HasDistinctSeqs s.kept → Holds fresh limit s.used [] → WritesAll fresh all (answer_where (λ seq. is_parked seq s.kept) answer (entries s.kept)) → Holds all limit s.used (answer_each answer (parked_ones s.kept))
-holds-terminal s answer fresh all limit d o w = subst (λ (ds : List Draft). Holds all limit s.used ds) (answers-parked answer s.kept d) (w.holds limit s.used [] o)
+pub holds-terminal : (s : Session) (last : Reply) (fresh all : OutboxState) → Holds fresh s.limits.body s.used [] → WritesWithin s.limits.body fresh all (answer_parked s (parked_ones s.kept) last) → Holds all s.limits.body s.used (after_terminal s last).drafts
+holds-terminal s last fresh all o w = w.holds s.limits.body s.used [] (omega arith) o
 
 -- ---- more messages than own numbers
 

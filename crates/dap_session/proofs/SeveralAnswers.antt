@@ -1,7 +1,7 @@
 -- Answers to several kept requests of a table.
 use Rattle.std.proofs.Common.{◌≡◌, ℕ, ◌+◌, List, [], ◌∷◌, ◌++◌, Bool, true, false, length, refl, sym, ap, ◌∙◌, subst, append_assoc, arith, filter, true≢false}
 use Rattle.std.specs.Prelude.{◌==◌, ◌||◌, ◌&&◌, not, if◌then◌else◌, map}
-use Rattle.std.specs.List.{list_any}
+use Rattle.std.specs.List.{list_all, list_any}
 use Rattle.std.proofs.lemmas.Bool.Decides.{nat_tests}
 use Rattle.std.proofs.lemmas.List.Folds.{list_any-append}
 use Rattle.dap_tables.specs.Outstanding.{Kept, entries, without, contains_seq, is_parked, parked_ones, HasDistinctSeqs}
@@ -66,6 +66,19 @@ answers-parked answer kept d = parked-where (λ seq. is_parked seq kept) answer 
 
 pub count-parked : (kept : List Kept) → HasDistinctSeqs kept → length (filter (λ (r : Entry). is_parked r.seq kept) (entries kept)) ≡ length (parked_ones kept)
 count-parked kept d = length-parked (λ seq. is_parked seq kept) kept (tells-from [] kept d)
+
+all-cons : (b : Bool) (test : Entry → Bool) (k : Kept) (xs : List Entry) (ks : List Kept) → list_all test xs ≡ list_all (λ (x : Kept). test x.entry) ks
+    → list_all test (if b then k.entry ∷ xs else xs) ≡ list_all (λ (x : Kept). test x.entry) (if b then k ∷ ks else ks)
+all-cons true test k xs ks e = ap (λ (b : Bool). test k.entry && b) e
+all-cons false test k xs ks e = e
+
+all-marked : (passes : ℕ → Bool) (test : Entry → Bool) (ks : List Kept) → TellsMarks passes ks → list_all test (filter (λ (r : Entry). passes r.seq) (entries ks)) ≡ list_all (λ (k : Kept). test k.entry) (parked_ones ks)
+all-marked passes test [] t = refl
+all-marked passes test (k ∷ ks) t = rw t.0 (all-cons k.parked test k (filter (λ (r : Entry). passes r.seq) (entries ks)) (parked_ones ks) (all-marked passes test ks t.1))
+
+-- each of those that are parked passes a test
+pub all-parked : (test : Entry → Bool) (kept : List Kept) → HasDistinctSeqs kept → list_all test (filter (λ (r : Entry). is_parked r.seq kept) (entries kept)) ≡ list_all (λ (k : Kept). test k.entry) (parked_ones kept)
+all-parked test kept d = all-marked (λ seq. is_parked seq kept) test kept (tells-from [] kept d)
 
 any-marked : (passes : ℕ → Bool) (test : Entry → Bool) (ks : List Kept) → TellsMarks passes ks → list_any (λ (r : Entry). passes r.seq && test r) (entries ks) ≡ list_any (λ (k : Kept). k.parked && test k.entry) ks
 any-marked passes test [] t = refl

@@ -1,2 +1,3 @@
 pub mod PrivateQuerying
 pub mod SessionCalls
+pub mod PrivateReplies

@@ -14,18 +14,19 @@ ghost use Rattle.dap_outbox.specs.Outbox.{Holds, IsReady};
 ghost use Rattle.dap_plan.specs.Session.{is_asked, numbers_of};
 ghost use Rattle.dap_decision.specs.Table.{is_phase};
 ghost use Rattle.dap_decision.specs.declared.phase.Phase.TheVariants.{Asked};
-ghost use Rattle.dap_plan.specs.SessionState.{MadeBy, Carries, HasTaken, IsRefusedFor, IsUnasked, NotTaken, reply_of};
+ghost use Rattle.dap_plan.specs.SessionState.{MadeBy, Carries, HasTaken, IsRefusedFor, IsUnasked, NotTaken};
+ghost use Rattle.dap_session.specs.PrivateReplies.{reply_of};
 ghost use Rattle.dap_plan.specs.Taking.{after_terminal, plan_of_response, plan_of_terminal, takes_response};
 
 use crate::effects::start_phase;
+use crate::reply::ActReply;
 use crate::session::Session;
-use crate::starting::start_failure;
 use dap_call::RUN_IN_TERMINAL;
 use dap_command::Command;
 use dap_debuggee::Debuggee;
 use dap_decision::{Effect, Phase};
 use dap_json::{Text, Tree, field};
-use dap_outbox::{Answer, Chosen, Outbox, answer_chosen};
+use dap_outbox::{Answer, Outbox};
 use dap_plan::AdapterFault;
 use dap_query::Options;
 use dap_tables::{Entry, InOrder, Outstanding};
@@ -206,30 +207,35 @@ impl<D: Debuggee + Drop> Session<D> {
         &self,
         alloc: Global,
         out: &mut Outbox,
-        ok: bool,
+        reply: &ActReply,
     ) -> Result<(), AllocError>
         requires ready { IsReady out.old (numbers_of self.now.session) }
         requires room { self.now.session.used + length (parked_ones self.now.session.kept) ≤ self.now.session.limits.seq }
         ensures last { OnOk result (out.new.numbers.last ≡ self.now.session.limits.seq) }
-        ensures holds { OnOk result (Holds out.new self.now.session.limits.body self.now.session.used (after_terminal self.now.session (reply_of ok)).drafts) }
+        ensures holds { OnOk result (Holds out.new self.now.session.limits.body self.now.session.used (after_terminal self.now.session (reply_of reply.now)).drafts) }
         ensures before { out.new.before ≡ out.old.before }
     {
         self.begin(out);
-        answer_chosen(alloc, out, &self.kept, Chosen::Parked, start_failure(ok))
+        self.answer_parked(alloc, out, reply)
     }
 
     /// Ends the waiting for a terminal, where the debuggee started or not.
-    fn end_waiting(&mut self, alloc: Global, out: &mut Outbox, ok: bool) -> Result<(), AllocError>
+    fn end_waiting(
+        &mut self,
+        alloc: Global,
+        out: &mut Outbox,
+        reply: &ActReply,
+    ) -> Result<(), AllocError>
         requires ready { IsReady out.old (numbers_of self.old.session) }
         requires room { self.old.session.used + length (parked_ones self.old.session.kept) ≤ self.old.session.limits.seq }
-        ensures made { OnOk result (MadeBy (after_terminal self.old.session (reply_of ok)) self.old.session self.new.session out.new.bytes) }
+        ensures made { OnOk result (MadeBy (after_terminal self.old.session (reply_of reply.now)) self.old.session self.new.session out.new.bytes) }
         ensures debuggee { self.new.debuggee ≡ self.old.debuggee }
         ensures err { OnErr result (self.new ≡ self.old) }
         ensures before { out.new.before ≡ out.old.before }
     {
-        self.terminal_responses(alloc, out, ok)?;
+        self.terminal_responses(alloc, out, reply)?;
         self.commit_asked(out);
-        self.set_phase(start_phase(ok));
+        self.set_phase(start_phase(reply));
         Ok(())
     }
 
@@ -241,8 +247,8 @@ impl<D: Debuggee + Drop> Session<D> {
         ensures err { OnErr result (self.new.session ≡ self.old.session) }
         ensures before { out.new.before ≡ out.old.before }
     {
-        let ok = self.ask_start(alloc)?;
-        self.end_waiting(alloc, out, ok)
+        let reply = self.ask_start(alloc)?;
+        self.end_waiting(alloc, out, &reply)
     }
 
     fn take_terminal(
@@ -261,7 +267,7 @@ impl<D: Debuggee + Drop> Session<D> {
         if success {
             return self.start_in_terminal(alloc, out);
         }
-        self.end_waiting(alloc, out, false)
+        self.end_waiting(alloc, out, &ActReply::Refused(None))
     }
 
     /// Does what a response to the own request says.

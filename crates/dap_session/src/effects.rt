@@ -5,8 +5,9 @@ ghost use Rattle.dap_body.specs.Body.{data_in};
 ghost use Rattle.dap_message.specs.Lengths.{IsWithin, event_within};
 ghost use Rattle.dap_call.specs.declared.call.Call.{Call};
 ghost use Rattle.dap_tables.specs.Outstanding.{contains_seq};
-ghost use Rattle.dap_debuggee.specs.Shown.{to_start, to_resume, to_pause, to_end};
-ghost use Rattle.dap_plan.specs.SessionState.{MadeBy, Carries, reply_of};
+ghost use Rattle.dap_debuggee.specs.Shown.{to_start, to_resume, to_pause, to_end, done};
+ghost use Rattle.dap_plan.specs.SessionState.{MadeBy, Carries};
+ghost use Rattle.dap_session.specs.PrivateReplies.{reply_of};
 ghost use Rattle.dap_plan.specs.Handling.{after_initialize, after_park, after_launch, after_configuration_done, after_terminate, after_resume, by_reply, options_of, start_phase, resume_body as resume_body_word};
 ghost use Rattle.dap_plan.specs.Plan.{after_answering, asking};
 ghost use Rattle.dap_outbox.specs.Draft.{reply, emit, success};
@@ -14,8 +15,8 @@ ghost use Rattle.dap_body.specs.ResponseBody.{offer_body};
 ghost use Rattle.dap_message.specs.MessageParts.{initialized};
 ghost use Rattle.dap_outbox.specs.Outbox.{Holds, answer_of, event_of, shape_of, IsReady};
 
+use crate::reply::ActReply;
 use crate::session::Session;
-use dap_body::Failure;
 use dap_call::Call;
 use dap_debuggee::{Debuggee, How};
 use dap_decision::Phase;
@@ -46,24 +47,12 @@ pub(crate) fn options_of(call: &Call) -> Options
     }
 }
 
-/// A success where the debuggee did what it was asked.
-fn by_reply(ok: bool, body: Option<Fixed>) -> Answer
-    ensures { answer_of result ≡ by_reply (data_in (shape_of body)) (reply_of ok) }
+pub(crate) fn start_phase(reply: &ActReply) -> Phase
+    ensures { result ≡ start_phase (reply_of reply.now) }
 {
-    if ok {
-        Answer::Success(body)
-    } else {
-        Answer::Failure(Failure::Debuggee)
-    }
-}
-
-pub(crate) fn start_phase(ok: bool) -> Phase
-    ensures { result ≡ start_phase (reply_of ok) }
-{
-    if ok {
-        Phase::Running
-    } else {
-        Phase::Configured
+    match reply {
+        ActReply::Done => Phase::Running,
+        ActReply::Refused(_) => Phase::Configured,
     }
 }
 
@@ -162,7 +151,7 @@ impl<D: Debuggee + Drop> Session<D> {
         self.begin(out);
         let offers = self.offers();
         let body = body_of_offer(offers)?;
-        out.reply_with(alloc, request, body)
+        out.reply_with(alloc, request, Some(body))
     }
 
     /// The same, and that the session is initialized.
@@ -228,6 +217,27 @@ impl<D: Debuggee + Drop> Session<D> {
         self.set_phase(Phase::Parked);
     }
 
+    /// Answers a request as the debuggee replied.
+    fn answer_by_reply(
+        &mut self,
+        alloc: Global,
+        out: &mut Outbox,
+        request: &Entry,
+        reply: &ActReply,
+    ) -> Result<(), AllocError>
+        requires ready { IsReady out.old (numbers_of self.old.session) }
+        requires room { self.old.session.used + 1 ≤ self.old.session.limits.seq }
+        ensures made { OnOk result (MadeBy (after_answering request.now (by_reply self.old.session request.now (reply_of reply.now)) self.old.session) self.old.session self.new.session out.new.bytes) }
+        ensures debuggee { self.new.debuggee ≡ self.old.debuggee }
+        ensures err { OnErr result (self.new.session ≡ self.old.session) }
+        ensures before { out.new.before ≡ out.old.before }
+    {
+        match reply {
+            ActReply::Done => self.answer(alloc, out, request, Answer::Success(None)),
+            ActReply::Refused(why) => self.fail_with(alloc, out, request, why),
+        }
+    }
+
     /// Starts the debuggee.
     pub(crate) fn start(
         &mut self,
@@ -241,9 +251,9 @@ impl<D: Debuggee + Drop> Session<D> {
         ensures err { OnErr result (self.new.session ≡ self.old.session) }
         ensures before { out.new.before ≡ out.old.before }
     {
-        let ok = self.ask_start(alloc)?;
-        self.answer(alloc, out, request, by_reply(ok, None))?;
-        self.set_phase(start_phase(ok));
+        let reply = self.ask_start(alloc)?;
+        self.answer_by_reply(alloc, out, request, &reply)?;
+        self.set_phase(start_phase(&reply));
         Ok(())
     }
 
@@ -269,6 +279,27 @@ impl<D: Debuggee + Drop> Session<D> {
         Ok(())
     }
 
+    /// Answers a request, and goes on.
+    fn go_on(
+        &mut self,
+        alloc: Global,
+        out: &mut Outbox,
+        request: &Entry,
+        how: How,
+    ) -> Result<(), AllocError>
+        requires ready { IsReady out.old (numbers_of self.old.session) }
+        requires room { self.old.session.used + 1 ≤ self.old.session.limits.seq }
+        ensures made { OnOk result (MadeBy (after_resume how self.old.session request.now done) self.old.session self.new.session out.new.bytes) }
+        ensures debuggee { self.new.debuggee ≡ self.old.debuggee }
+        ensures err { OnErr result (self.new.session ≡ self.old.session) }
+        ensures before { out.new.before ≡ out.old.before }
+    {
+        self.answer(alloc, out, request, Answer::Success(resume_body(how)))?;
+        self.clear_references();
+        self.set_phase(Phase::Running);
+        Ok(())
+    }
+
     /// Lets the debuggee go on.
     pub(crate) fn resume(
         &mut self,
@@ -284,14 +315,10 @@ impl<D: Debuggee + Drop> Session<D> {
         ensures err { OnErr result (self.new.session ≡ self.old.session) }
         ensures before { out.new.before ≡ out.old.before }
     {
-        let body = resume_body(how);
-        if self.ask_resume(alloc, how, thread)? {
-            self.answer(alloc, out, request, Answer::Success(body))?;
-            self.clear_references();
-            self.set_phase(Phase::Running);
-            return Ok(());
+        match self.ask_resume(alloc, how, thread)? {
+            ActReply::Done => self.go_on(alloc, out, request, how),
+            ActReply::Refused(why) => self.fail_with(alloc, out, request, &why),
         }
-        self.answer(alloc, out, request, Answer::Failure(Failure::Debuggee))
     }
 
     /// Asks the debuggee to stop.
@@ -303,11 +330,11 @@ impl<D: Debuggee + Drop> Session<D> {
     ) -> Result<(), AllocError>
         requires ready { IsReady out.old (numbers_of self.old.session) }
         requires room { self.old.session.used + 1 ≤ self.old.session.limits.seq }
-        ensures carries { OnOk result (Carries D.follows (asking to_pause (λ last. after_answering request.now (by_reply None last) self.old.session)) self.old self.new out.new.bytes) }
+        ensures carries { OnOk result (Carries D.follows (asking to_pause (λ last. after_answering request.now (by_reply self.old.session request.now last) self.old.session)) self.old self.new out.new.bytes) }
         ensures err { OnErr result (self.new.session ≡ self.old.session) }
         ensures before { out.new.before ≡ out.old.before }
     {
-        let ok = self.ask_pause(alloc)?;
-        self.answer(alloc, out, request, by_reply(ok, None))
+        let reply = self.ask_pause(alloc)?;
+        self.answer_by_reply(alloc, out, request, &reply)
     }
 }

@@ -1,4 +1,5 @@
-//! A request that fails: where the debuggee refused, it is asked why, and the failure says so where that fits.
+//! A request that fails: where the debuggee refused an act it may have said why, where it refused a query it is asked, and the
+//! failure says so where that fits.
 ghost use Rattle.std.specs.Prelude.{◌≡◌, ◌+◌, ◌≤◌, [], ◌∷◌, IfOk, OnOk, OnErr, IsTrue, Option, option_and_then, option_map, false};
 ghost use Rattle.dap_call.specs.declared.call.Call.{Call};
 ghost use Rattle.dap_debuggee.specs.Shown.{for_children, for_scopes, query_lent};
@@ -137,6 +138,31 @@ impl<D: Debuggee + Drop> Session<D> {
     }
 
     /// Answers a request that the debuggee refused, with why where that is said and fits.
+    pub(crate) fn fail_with(
+        &mut self,
+        alloc: Global,
+        out: &mut Outbox,
+        request: &Entry,
+        why: &Option<Explanation>,
+    ) -> Result<(), AllocError>
+        requires ready { IsReady out.old (numbers_of self.old.session) }
+        requires room { self.old.session.used + 1 ≤ self.old.session.limits.seq }
+        ensures made { OnOk result (MadeBy (after_answering request.now (failing self.old.session request.now Failure.Debuggee why.now) self.old.session) self.old.session self.new.session out.new.bytes) }
+        ensures debuggee { self.new.debuggee ≡ self.old.debuggee }
+        ensures err { OnErr result (self.new.session ≡ self.old.session) }
+        ensures before { out.new.before ≡ out.old.before }
+    {
+        let Some(told) = why else {
+            return self.answer(alloc, out, request, Answer::Failure(Failure::Debuggee));
+        };
+        if self.explained(alloc, out, request, told)? {
+            self.commit(request.seq, out);
+            return Ok(());
+        }
+        self.answer(alloc, out, request, Answer::Failure(Failure::Debuggee))
+    }
+
+    /// Answers a request whose query the debuggee refused.
     fn fail_refused(
         &mut self,
         alloc: Global,
@@ -151,14 +177,8 @@ impl<D: Debuggee + Drop> Session<D> {
         ensures err { OnErr result (self.new.session ≡ self.old.session) }
         ensures before { out.new.before ≡ out.old.before }
     {
-        let Some(told) = self.ask_why(alloc, query)? else {
-            return self.answer(alloc, out, request, Answer::Failure(Failure::Debuggee));
-        };
-        if self.explained(alloc, out, request, &told)? {
-            self.commit(request.seq, out);
-            return Ok(());
-        }
-        self.answer(alloc, out, request, Answer::Failure(Failure::Debuggee))
+        let why = self.ask_why(alloc, query)?;
+        self.fail_with(alloc, out, request, &why)
     }
 
     /// Answers a request that fails, of which this was queried.

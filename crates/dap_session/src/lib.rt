@@ -14,6 +14,7 @@ mod handling;
 mod offers;
 mod polling;
 mod querying;
+mod reply;
 mod session;
 mod starting;
 mod taking;

@@ -12,8 +12,9 @@ ghost use Rattle.dap_debuggee.specs.Laws.{is_short};
 ghost use Rattle.dap_debuggee.specs.Shown.{to_start, to_resume, to_pause, to_poll, to_end, done, happened};
 
 use crate::offers::usual_offers;
+use crate::reply::ActReply;
 use dap_command::Offer;
-use dap_debuggee::{Debuggee, DebuggeeFault, Happening, HasMail, How};
+use dap_debuggee::{ActFault, Debuggee, Happening, HasMail, How};
 use dap_decision::Phase;
 use dap_frame::Limits;
 use dap_outbox::Outbox;
@@ -67,7 +68,7 @@ impl<D: Debuggee + Drop> Model for Session<D> {
 }
 
 impl<D: Debuggee + Drop> Session<D> {
-    ghost use Rattle.dap_plan.specs.SessionState.{reply_of};
+    ghost use Rattle.dap_session.specs.PrivateReplies.{reply_of};
     ghost use Rattle.dap_tables.specs.References.{without_references};
 
     /// A fresh session. It offers all that is served, and no more.
@@ -131,6 +132,13 @@ impl<D: Debuggee + Drop> Session<D> {
         ensures bound { result ≤ self.now.session.limits.breakpoints }
     {
         self.breakpoints.len()
+    }
+
+    /// Those of a source, each its id and its line as the debuggee counts.
+    pub fn breakpoints_of(&self, source: &SourceKey) -> &[(u64, u32)]
+        ensures { result.now ≡ set_of source.now self.now.session.breakpoints.sources }
+    {
+        self.breakpoints.of_source(source)
     }
 
     /// How many own requests are not answered.
@@ -304,44 +312,44 @@ impl<D: Debuggee + Drop> Session<D> {
         self.kept.park(seq);
     }
 
-    /// Asks the debuggee to start: whether it did.
-    pub(crate) fn ask_start(&mut self, alloc: Global) -> Result<bool, AllocError>
-        ensures follows { IfOk result (λ ok. D.follows self.old.debuggee to_start (reply_of ok) self.new.debuggee) }
+    /// Asks the debuggee to start: what it replies.
+    pub(crate) fn ask_start(&mut self, alloc: Global) -> Result<ActReply, AllocError>
+        ensures follows { IfOk result (λ reply. D.follows self.old.debuggee to_start (reply_of reply) self.new.debuggee) }
         ensures session { self.new.session ≡ self.old.session }
     {
         match self.debuggee.start(alloc) {
-            Ok(()) => Ok(true),
-            Err(DebuggeeFault::Refused) => Ok(false),
-            Err(DebuggeeFault::OutOfMemory) => Err(AllocError),
+            Ok(()) => Ok(ActReply::Done),
+            Err(ActFault::Refused(why)) => Ok(ActReply::Refused(why)),
+            Err(ActFault::OutOfMemory) => Err(AllocError),
         }
     }
 
-    /// Asks the debuggee to go on: whether it does.
+    /// Asks the debuggee to go on: what it replies.
     pub(crate) fn ask_resume(
         &mut self,
         alloc: Global,
         how: How,
         thread: i64,
-    ) -> Result<bool, AllocError>
-        ensures follows { IfOk result (λ ok. D.follows self.old.debuggee (to_resume how thread) (reply_of ok) self.new.debuggee) }
+    ) -> Result<ActReply, AllocError>
+        ensures follows { IfOk result (λ reply. D.follows self.old.debuggee (to_resume how thread) (reply_of reply) self.new.debuggee) }
         ensures session { self.new.session ≡ self.old.session }
     {
         match self.debuggee.resume(alloc, how, thread) {
-            Ok(()) => Ok(true),
-            Err(DebuggeeFault::Refused) => Ok(false),
-            Err(DebuggeeFault::OutOfMemory) => Err(AllocError),
+            Ok(()) => Ok(ActReply::Done),
+            Err(ActFault::Refused(why)) => Ok(ActReply::Refused(why)),
+            Err(ActFault::OutOfMemory) => Err(AllocError),
         }
     }
 
-    /// Asks the debuggee to stop: whether it does not refuse.
-    pub(crate) fn ask_pause(&mut self, alloc: Global) -> Result<bool, AllocError>
-        ensures follows { IfOk result (λ ok. D.follows self.old.debuggee to_pause (reply_of ok) self.new.debuggee) }
+    /// Asks the debuggee to stop: what it replies.
+    pub(crate) fn ask_pause(&mut self, alloc: Global) -> Result<ActReply, AllocError>
+        ensures follows { IfOk result (λ reply. D.follows self.old.debuggee to_pause (reply_of reply) self.new.debuggee) }
         ensures session { self.new.session ≡ self.old.session }
     {
         match self.debuggee.pause(alloc) {
-            Ok(()) => Ok(true),
-            Err(DebuggeeFault::Refused) => Ok(false),
-            Err(DebuggeeFault::OutOfMemory) => Err(AllocError),
+            Ok(()) => Ok(ActReply::Done),
+            Err(ActFault::Refused(why)) => Ok(ActReply::Refused(why)),
+            Err(ActFault::OutOfMemory) => Err(AllocError),
         }
     }
 

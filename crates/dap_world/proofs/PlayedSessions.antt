@@ -50,7 +50,7 @@ abbrev pub plays : Act → Stubborn → Reply × Stubborn
 plays a v = ((act_on a v.inner).0, record { refuses = v.refuses; inner = with_ask a (act_on a v.inner).0 (act_on a v.inner).1 })
 
 abbrev pub replies_in : Bool → Act → Stubborn → Reply × Stubborn
-replies_in true to_start v = (refused, record { refuses = false; inner = with_ask to_start refused v.inner })
+replies_in true to_start v = (refused None, record { refuses = false; inner = with_ask to_start (refused None) v.inner })
 replies_in true a v = plays a v
 replies_in false a v = plays a v
 

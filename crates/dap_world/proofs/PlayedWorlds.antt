@@ -206,7 +206,7 @@ asks_nothing (at_once made) = true
 asks_nothing (asking act makes) = false
 
 abbrev pub unasked : {D : Type 0} → Replies D
-unasked act v = (refused, v)
+unasked act v = (refused None, v)
 
 module _ {D : Type 0} (shown : D → Shown) (follows : Goes D) (limits : Settings) (d : D) where
   goes-on : (plan : Plan) (v : D) → asks_nothing plan ≡ true → CarriedOut follows plan v (made_by unasked plan v) (left_by unasked plan v)

@@ -14,13 +14,13 @@ use Rattle.dap_plan.specs.declared.fault.AdapterFault.{AdapterFault}
 use Rattle.dap_plan.specs.declared.fault.AdapterFault.TheVariants.{Unmatched, CommandMismatch, SeqExhausted}
 use Rattle.dap_decision.specs.declared.phase.Phase.{Phase}
 use Rattle.dap_decision.specs.declared.phase.Phase.TheVariants as adapter
-use Rattle.dap_plan.specs.Handling.{by_reply, start_phase}
+use Rattle.dap_plan.specs.Handling.{by_reply, start_phase, by_reply_each}
 use Rattle.dap_plan.specs.Laws.{CanMake}
 use Rattle.dap_plan.specs.Plan.{Made, Plan, messages_due, plan_within_numbers}
 use Rattle.dap_plan.specs.Session.{Session, is_asked}
 use Rattle.dap_plan.specs.Taking.{after_terminal, after_late_terminal, plan_of_response, takes_response}
 use Rattle.dap_world.specs.Projection.{adapter_model_phase, all_kept, adapter_model_of}
-use Rattle.dap_world.proofs.Answered.{AllHarmless, AllGiveNone, none-each, none-reply, is_done, told-reply, starts-phase, harmless-after_park, same-adapter-model}
+use Rattle.dap_world.proofs.Answered.{AllHarmless, AllGiveNone, none-each, none-parked-reply, is_done, told-parked, starts-phase, harmless-after_park, same-adapter-model}
 use Rattle.dap_world.proofs.KeptSeen.{all_told, each-succeeded, parked-seen, unparked-seen}
 use Rattle.dap_world.proofs.RowsSeen.{at}
 use Rattle.dap_world.proofs.TakesSeen.{afforded}
@@ -43,7 +43,9 @@ ends-moved s ok m made e a = subst (λ (x : Made). EndsWaiting s ok x) (sym e) a
 ends-by : (s : Session) (ok starts : Bool) (last : Reply) → (ok && starts) ≡ is_done last → AllLaunch (parked_of (all_kept s.kept)) → EndsWaiting (at adapter.Asked s) ok (after_terminal (at adapter.Asked s) last)
 ends-by s ok starts last e l =
     let d = adapter_model_of (at adapter.Asked s) in
-    let answers = each-succeeded (by_reply None last) (is_done last) (parked_ones s.kept) (λ r. told-reply r None last) in
+    let waits = at adapter.Asked s in
+    let parked = parked_ones s.kept in
+    let answers = each-succeeded (by_reply_each waits parked last) (is_done last) parked (told-parked waits parked last) in
     let after : adapter_model_of (after_terminal (at adapter.Asked s) last).after ≡ (ends_wait model.AdapterAsked d (is_done last)).adapter =
     same-adapter-model (adapter_model_phase (start_phase last)) (phase_after_start (is_done last)) (all_kept (unparked_ones s.kept)) (unparked_of (all_kept s.kept)) (starts-phase last) (unparked-seen s.kept) in
     let outs : all_told (after_terminal (at adapter.Asked s) last).drafts ≡ (ends_wait model.AdapterAsked d (is_done last)).outs =
@@ -54,9 +56,9 @@ ends-by s ok starts last e l =
       none = refl;
       after = after ∙ ap (λ (b : Bool). (ends_wait model.AdapterAsked d b).adapter) (sym e);
       outs = outs ∙ ap (λ (b : Bool). (ends_wait model.AdapterAsked d b).outs) (sym e);
-      harmless = harmless-after_park last (parked_ones s.kept) (subst AllLaunch (sym (parked-seen s.kept)) l);
+      harmless = harmless-after_park waits parked last parked (subst AllLaunch (sym (parked-seen s.kept)) l);
       references_are = refl;
-      none_given = none-each (by_reply None last) (parked_ones s.kept) (none-reply last);
+      none_given = none-each (by_reply_each waits parked last) parked (none-parked-reply waits parked last);
     }
 
 -- none is waited for
@@ -75,7 +77,7 @@ ends-late p s ok e =
 
 ends-in : (p : Phase) (s : Session) (ok : Bool) (made : Made) → AllLaunch (parked_of (all_kept s.kept)) → CanMake (plan_of_response ok (at p s)) made → EndsWaiting (at p s) ok made
 ends-in adapter.Asked s true made l can = ends-moved (at adapter.Asked s) true (after_terminal (at adapter.Asked s) can.0) made can.1 (ends-by s true (is_done can.0) can.0 refl l)
-ends-in adapter.Asked s false made l can = ends-moved (at adapter.Asked s) false (after_terminal (at adapter.Asked s) refused) made can (ends-by s false true refused refl l)
+ends-in adapter.Asked s false made l can = ends-moved (at adapter.Asked s) false (after_terminal (at adapter.Asked s) (refused None)) made can (ends-by s false true (refused None) refl l)
 ends-in adapter.Fresh s ok made l can = ends-moved (at adapter.Fresh s) ok (after_late_terminal (at adapter.Fresh s)) made can (ends-late adapter.Fresh s ok refl)
 ends-in adapter.Ready s ok made l can = ends-moved (at adapter.Ready s) ok (after_late_terminal (at adapter.Ready s)) made can (ends-late adapter.Ready s ok refl)
 ends-in adapter.Configured s ok made l can = ends-moved (at adapter.Configured s) ok (after_late_terminal (at adapter.Configured s)) made can (ends-late adapter.Configured s ok refl)

@@ -63,9 +63,9 @@ at_first = record { state = NotStarted; lines = λ source. []; acts = 0; last = 
 
 abbrev reply_in : State → Act → Reply
 reply_in NotStarted to_start = done
-reply_in state to_start = refused
+reply_in state to_start = refused None
 reply_in Stopped (to_resume how thread) = done
-reply_in state (to_resume how thread) = refused
+reply_in state (to_resume how thread) = refused None
 reply_in state to_pause = done
 reply_in Running to_poll = happened (happening.Stopped (codes "step") (pos 1) [])
 reply_in Stopped to_poll = happened (happening.Continued (pos 1))

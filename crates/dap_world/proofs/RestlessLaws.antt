@@ -16,10 +16,10 @@ use Rattle.dap_world.specs.Restless.{Restless, threads_in, restless_shown, Restl
 
 same-state : (state : State) (act : Act) (reply : Reply) → keeps_answers act reply ≡ true → state_after state act reply ≡ state
 same-state state to_start done h = absurd (true≢false (sym h))
-same-state state to_start refused h = refl
+same-state state to_start (refused why) h = refl
 same-state state to_start (happened x) h = absurd (true≢false (sym h))
 same-state state (to_resume how thread) done h = absurd (true≢false (sym h))
-same-state state (to_resume how thread) refused h = refl
+same-state state (to_resume how thread) (refused why) h = refl
 same-state state (to_resume how thread) (happened x) h = absurd (true≢false (sym h))
 same-state state to_pause reply h = refl
 same-state state to_poll reply h = absurd (true≢false (sym h))

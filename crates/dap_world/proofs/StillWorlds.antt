@@ -40,7 +40,7 @@ pub record StandsStill {D : Type 0} (shown : D → Shown) (limits : Settings) (d
 
 running-calm : (r : Reply) → IsTrue (may_answer state.Running to_poll r) → moves_by_itself model.AdapterRunning (happening_seen r) ≡ false
 running-calm done m = refl
-running-calm refused m = refl
+running-calm (refused why) m = refl
 running-calm (happened happening.Nothing) m = refl
 running-calm (happened (happening.Output category text more)) m = refl
 running-calm (happened (happening.Stopped reason thread more)) m = refl
@@ -49,7 +49,7 @@ running-calm (happened (happening.Exited code)) m = refl
 
 stopped-calm : (r : Reply) → IsTrue (may_answer state.Stopped to_poll r) → ends_a_stop state.Stopped r ≡ false → moves_by_itself model.AdapterStopped (happening_seen r) ≡ false
 stopped-calm done m e = refl
-stopped-calm refused m e = refl
+stopped-calm (refused why) m e = refl
 stopped-calm (happened happening.Nothing) m e = refl
 stopped-calm (happened (happening.Output category text more)) m e = refl
 stopped-calm (happened (happening.Stopped reason thread more)) m e = absurd (true≢false (sym m))

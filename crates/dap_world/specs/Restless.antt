@@ -5,7 +5,7 @@ use Rattle.dap_command.specs.declared.source_key.SourceKey.{SourceKey}
 use Rattle.dap_frame.specs.Settings.{Settings, AreInRange}
 use Rattle.dap_debuggee.specs.KeepsLaws.{KeepsLaws}
 use Rattle.dap_debuggee.specs.Laws.{Follows, is_short, may_answer, state_after, lines_after}
-use Rattle.dap_debuggee.specs.Shown.{Shown, Act, to_assign, Reply, happened, Last, asked_of_act}
+use Rattle.dap_debuggee.specs.Shown.{Shown, Act, to_assign, Reply, happened, without_reason, Last, asked_of_act}
 use Rattle.dap_debuggee.specs.declared.answers.State.{State}
 use Rattle.dap_debuggee.specs.declared.answers.State.TheVariants.{NotStarted, Running, Stopped, Gone}
 use Rattle.dap_debuggee.specs.declared.answers.Thread.{Thread}
@@ -64,7 +64,7 @@ restless_after v act reply = record {
   state = state_after v.state act reply;
   lines = lines_after act v.lines;
   acts = (v.acts + 1) % 2 ^ 64;
-  last = Some (record { asked = asked_of_act act; reply = reply });
+  last = Some (record { asked = asked_of_act act; reply = without_reason reply });
 }
 
 -- each reply that its state allows may come

@@ -1,6 +1,6 @@
 -- What an act does to the debugger, and what comes of running.
-use Rattle.std.specs.Prelude.{◌≡◌, ℕ, ◌+◌, ◌%◌, ◌^◌, pos, Bool, true, false, decimal, codes, List, [], ◌∷◌, ◌++◌, Some, IsTrue}
-use Rattle.dap_debuggee.specs.Shown.{Act, to_set_breakpoints, to_assign, Reply, done, refused, happened, asked_of_act, Last}
+use Rattle.std.specs.Prelude.{◌≡◌, ℕ, ◌+◌, ◌%◌, ◌^◌, pos, Bool, true, false, decimal, codes, List, [], ◌∷◌, ◌++◌, Some, None, IsTrue}
+use Rattle.dap_debuggee.specs.Shown.{Act, to_set_breakpoints, to_assign, Reply, done, refused, happened, without_reason, asked_of_act, Last}
 use Rattle.dap_debuggee.specs.Laws.{may_answer, state_after, keeps_frames}
 use Rattle.dap_debuggee.specs.declared.answers.Asked.TheVariants.{Poll}
 use Rattle.dap_debuggee.specs.declared.answers.Category.TheVariants.{Stdout}
@@ -51,7 +51,7 @@ pub record HasRun (v : ToyState) (n : News) (w : ToyState) : Type 0 where
 
 abbrev pub last_of : LastAct → Last
 last_of (Done asked) = record { asked = asked; reply = done }
-last_of (Refused asked) = record { asked = asked; reply = refused }
+last_of (Refused asked) = record { asked = asked; reply = refused None }
 last_of (Polled n) = record { asked = Poll; reply = happened (happening_of n) }
 
 -- an act counted and remembered
@@ -78,6 +78,6 @@ pub record FollowsToy (v : ToyState) (a : Act) (r : Reply) (w : ToyState) : Type
   pub possible : IsTrue (is_possible a)
   pub state : w.state ≡ state_after v.state a r
   pub acts : w.acts ≡ (v.acts + 1) % 2 ^ 64
-  pub last : w.last ≡ Some (record { asked = asked_of_act a; reply = r })
+  pub last : w.last ≡ Some (record { asked = asked_of_act a; reply = without_reason r })
   pub set : w.set ≡ set_after a v.set
   pub stays : IsTrue (keeps_frames a r) → ShowsTheSame v w

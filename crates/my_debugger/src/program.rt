@@ -21,8 +21,11 @@ pub(crate) const NAME: &str = "sample.toy";
 /// The path of the source, by which a client names it.
 pub(crate) const PATH: &str = "/toy/sample.toy";
 
+/// Why it does not go back.
+pub(crate) const NO_WAY_BACK: &str = "There is no way back.";
+
 /// Why a text that is no variable of a frame has no value.
-pub(crate) const NO_VARIABLE: &str = "No variable of that name is in this frame.";
+pub(crate) const NO_VARIABLE: &str = "There is no variable of that name.";
 
 /// The source.
 pub(crate) const TEXT: &str = "set a 2

@@ -2,11 +2,11 @@
 
 use crate::call::{Call, Local};
 use crate::news::{LastAct, News, Reason};
-use crate::program::{NO_VARIABLE, PATH, TEXT};
+use crate::program::{NO_VARIABLE, NO_WAY_BACK, PATH, TEXT};
 use crate::{call, queries};
 use dap_command::SourceKey;
 use dap_debuggee::{
-    Asked, Assigned, Debuggee, DebuggeeFault, Evaluation, Explanation, Frame, Happening, How,
+    ActFault, Asked, Assigned, Debuggee, DebuggeeFault, Evaluation, Explanation, Frame, Happening, How,
     Placement, RefusedQuery, Scope, Source, State, Thread, Variable,
 };
 use dap_json::Text;
@@ -163,15 +163,19 @@ impl Toy {
         Ok(happening)
     }
 
-    /// Goes on from a stop, or refuses.
-    fn go_on(&mut self, how: How, thread: i64) -> Result<(), DebuggeeFault>
+    /// Goes on from a stop, or refuses and says why.
+    fn go_on(&mut self, alloc: Global, how: How, thread: i64) -> Result<(), ActFault>
         requires { self.old.state ≡ State.Stopped }
         ensures { Replies result (λ reply. FollowsToy self.old (to_resume how thread) reply self.new) }
     {
         match until(how, self.stack.len()) {
             None => {
+                let text = Text::copied(alloc, NO_WAY_BACK)?;
                 self.note(LastAct::Refused(Asked::Resume { how, thread }));
-                Err(DebuggeeFault::Refused)
+                Err(ActFault::Refused(Some(Explanation {
+                    text,
+                    show_user: true,
+                })))
             }
             Some(until) => {
                 self.run = Run {
@@ -230,7 +234,7 @@ impl Debuggee for Toy {
 
     ghost follows = { FollowsToy };
 
-    fn start(&mut self, alloc: Global) -> Result<(), DebuggeeFault> {
+    fn start(&mut self, alloc: Global) -> Result<(), ActFault> {
         match self.state {
             State::NotStarted => {
                 call::enter(alloc, &mut self.stack, "main", 0)?;
@@ -240,22 +244,22 @@ impl Debuggee for Toy {
             }
             State::Running | State::Stopped | State::Gone => {
                 self.note(LastAct::Refused(Asked::Start));
-                Err(DebuggeeFault::Refused)
+                Err(ActFault::Refused(None))
             }
         }
     }
 
-    fn resume(&mut self, _alloc: Global, how: How, thread: i64) -> Result<(), DebuggeeFault> {
+    fn resume(&mut self, alloc: Global, how: How, thread: i64) -> Result<(), ActFault> {
         match self.state {
-            State::Stopped => self.go_on(how, thread),
+            State::Stopped => self.go_on(alloc, how, thread),
             State::NotStarted | State::Running | State::Gone => {
                 self.note(LastAct::Refused(Asked::Resume { how, thread }));
-                Err(DebuggeeFault::Refused)
+                Err(ActFault::Refused(None))
             }
         }
     }
 
-    fn pause(&mut self, _alloc: Global) -> Result<(), DebuggeeFault> {
+    fn pause(&mut self, _alloc: Global) -> Result<(), ActFault> {
         match self.state {
             State::Running => {
                 self.run.pausing = true;
@@ -264,7 +268,7 @@ impl Debuggee for Toy {
             }
             State::NotStarted | State::Stopped | State::Gone => {
                 self.note(LastAct::Refused(Asked::Pause));
-                Err(DebuggeeFault::Refused)
+                Err(ActFault::Refused(None))
             }
         }
     }

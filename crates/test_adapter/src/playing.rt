@@ -13,15 +13,17 @@
 //! | `free of memory` | from here on no call takes memory, so that one which is refused any is wrong |
 //! | `recording JSON` | the debuggee is of this recording; of the shared one if left out |
 //! | `debuggee willing` | of a stubborn debuggee: it does not refuse its first start |
+//! | `debuggee says TEXT` | of a stubborn debuggee: it refuses each pause and each way back too, and gives this as the reason |
 //!
 //! At each call all that the last one handed out has to be named, and as many requests are kept as were taken and not
 //! answered. A call that is refused memory closes the adapter too.
 
-ghost use Rattle.std.specs.Prelude.{◌≡◌};
+ghost use Rattle.std.specs.Prelude.{◌≡◌, IfSome};
 ghost use Rattle.dap_debuggee.specs.declared.answers.State.{State};
 
 use dap_adapter::{Adapter, AdapterFault, Phase, Turned};
 use dap_debuggee::Debuggee;
+use dap_json::Text;
 use dap_replay::Recorded;
 use std::alloc::Global;
 use std::marker::Model;
@@ -468,23 +470,30 @@ impl Player for Playing<Recorded> {
     }
 }
 
-/// The debuggee of a recording that refuses its first start, unless the row says that it is willing.
-fn stubborn_of(setting: &Setting<'_>, recorded: Recorded) -> Stubborn
+/// The debuggee of a recording that refuses its first start, unless the row says that it is willing; `None` where memory is
+/// refused.
+fn stubborn_of(alloc: Global, setting: &Setting<'_>, recorded: Recorded) -> Option<Stubborn>
     requires { recorded.state ≡ State.NotStarted }
-    ensures { result.inner.state ≡ State.NotStarted }
+    ensures { IfSome result (λ stubborn. stubborn.inner.state ≡ State.NotStarted) }
 {
+    if let Some(text) = heading(setting.row, "debuggee says ") {
+        let why = Text::copied(alloc, text).ok()?;
+        return Some(Stubborn::saying(recorded, why));
+    }
     match heading(setting.row, "debuggee ") {
-        Some("willing") => Stubborn::willing(recorded),
-        _ => Stubborn::new(recorded),
+        Some("willing") => Some(Stubborn::willing(recorded)),
+        _ => Some(Stubborn::new(recorded)),
     }
 }
 
-/// Over a debuggee that may refuse to start when it is asked first, and whose variables take one long value.
+/// Over a debuggee that may refuse acts, and whose variables take one long value.
 impl Player for Playing<Stubborn> {
     fn open(alloc: Global, setting: &Setting<'_>, _came: &mut String) -> Result<Self, Outcome> {
         match debuggee_of(alloc, recording_of(setting)) {
             Ok(recorded) => {
-                let debuggee = stubborn_of(setting, recorded);
+                let Some(debuggee) = stubborn_of(alloc, setting, recorded) else {
+                    return Err(Outcome::Refused);
+                };
                 match Adapter::open(alloc, setting.limits, debuggee) {
                     Ok(adapter) => Ok(Playing::new(alloc, adapter, setting.size)),
                     Err(_) => Err(Outcome::Refused),

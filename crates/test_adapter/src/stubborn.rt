@@ -1,12 +1,12 @@
-//! Rows over a debuggee that may refuse its first start, whose variables take one long value, and that says why a text has no
-//! value. What the lines of a row say stands in `playing.rt`.
+//! Rows over a debuggee that may refuse acts, with a reason or without, whose variables take one long value, and that says why a
+//! text has no value. What the lines of a row say stands in `playing.rt`.
 
 use crate::playing::Playing;
 use std::test::Fail;
 use test_kit::rows::play_rows;
 use test_kit::stubborn::Stubborn;
 
-pub(crate) static STUBBORN: [&str; 10] = [
+pub(crate) static STUBBORN: [&str; 18] = [
     r#"
 # Where a debuggee refuses to start, `launch` fails, and the next one succeeds.
 row a refused start
@@ -255,6 +255,233 @@ turn
 < {"command":"launch","request_seq":7,"seq":8,"success":true,"type":"response"}
 kept 0
 phase Running
+"#,
+    r#"
+# It fails with just what the debuggee says. The next one is not refused.
+row why a start is refused
+debuggee says There is no such program.
+> {"seq":1,"type":"request","command":"initialize","arguments":{"adapterID":"rec"}}
+turn
+< capabilities seq 1 to 1
+< {"event":"initialized","seq":2,"type":"event"}
+> {"seq":2,"type":"request","command":"configurationDone"}
+turn
+< {"command":"configurationDone","request_seq":2,"seq":3,"success":true,"type":"response"}
+> {"seq":3,"type":"request","command":"launch"}
+turn
+< {"body":{"error":{"format":"{why}","id":1013,"showUser":true,"variables":{"why":"There is no such program."}}},"command":"launch","message":"debuggee","request_seq":3,"seq":4,"success":false,"type":"response"}
+kept 0
+phase Configured
+> {"seq":4,"type":"request","command":"attach"}
+turn
+< {"command":"attach","request_seq":4,"seq":5,"success":true,"type":"response"}
+phase Running
+"#,
+    r#"
+row why a start for what is parked is refused
+debuggee says There is no such program.
+> {"seq":1,"type":"request","command":"initialize","arguments":{"adapterID":"rec"}}
+turn
+< capabilities seq 1 to 1
+< {"event":"initialized","seq":2,"type":"event"}
+> {"seq":2,"type":"request","command":"attach"}
+turn
+phase Parked
+> {"seq":3,"type":"request","command":"configurationDone"}
+turn
+< {"command":"configurationDone","request_seq":3,"seq":3,"success":true,"type":"response"}
+< {"body":{"error":{"format":"{why}","id":1013,"showUser":true,"variables":{"why":"There is no such program."}}},"command":"attach","message":"debuggee","request_seq":2,"seq":4,"success":false,"type":"response"}
+kept 0
+phase Configured
+> {"seq":4,"type":"request","command":"launch"}
+turn
+< {"command":"launch","request_seq":4,"seq":5,"success":true,"type":"response"}
+phase Running
+"#,
+    r#"
+# Where the terminal is refused the debuggee is not asked: nobody says why.
+row why a start in a terminal is refused
+debuggee says There is no such program.
+> {"seq":1,"type":"request","command":"initialize","arguments":{"adapterID":"rec","supportsRunInTerminalRequest":true}}
+turn
+< capabilities seq 1 to 1
+< {"event":"initialized","seq":2,"type":"event"}
+> {"seq":2,"type":"request","command":"configurationDone"}
+turn
+< {"command":"configurationDone","request_seq":2,"seq":3,"success":true,"type":"response"}
+> {"seq":3,"type":"request","command":"launch","arguments":{"console":"terminal"}}
+turn
+< terminal seq 4
+asked 1
+phase Asked
+> {"seq":4,"type":"response","request_seq":4,"success":false,"command":"runInTerminal"}
+< debuggee seq 5 to 3 launch
+kept 0
+asked 0
+phase Configured
+> {"seq":5,"type":"request","command":"launch","arguments":{"console":"terminal"}}
+turn
+< terminal seq 6
+asked 1
+phase Asked
+> {"seq":6,"type":"response","request_seq":6,"success":true,"command":"runInTerminal"}
+< {"body":{"error":{"format":"{why}","id":1013,"showUser":true,"variables":{"why":"There is no such program."}}},"command":"launch","message":"debuggee","request_seq":5,"seq":7,"success":false,"type":"response"}
+kept 0
+asked 0
+phase Configured
+"#,
+    r#"
+# It is paused while it runs, and asked to go back in a stop: each is refused, and nothing else changes. What it does has no reason.
+row why a pause and a way back are refused
+debuggee says Not "now".
+> {"seq":1,"type":"request","command":"initialize","arguments":{"adapterID":"rec"}}
+turn
+< capabilities seq 1 to 1
+< {"event":"initialized","seq":2,"type":"event"}
+> {"seq":2,"type":"request","command":"configurationDone"}
+turn
+< {"command":"configurationDone","request_seq":2,"seq":3,"success":true,"type":"response"}
+> {"seq":3,"type":"request","command":"launch"}
+turn
+< {"body":{"error":{"format":"{why}","id":1013,"showUser":true,"variables":{"why":"Not \"now\"."}}},"command":"launch","message":"debuggee","request_seq":3,"seq":4,"success":false,"type":"response"}
+> {"seq":4,"type":"request","command":"launch"}
+turn
+< {"command":"launch","request_seq":4,"seq":5,"success":true,"type":"response"}
+phase Running
+> {"seq":5,"type":"request","command":"pause","arguments":{"threadId":1}}
+turn
+< {"body":{"error":{"format":"{why}","id":1013,"showUser":true,"variables":{"why":"Not \"now\"."}}},"command":"pause","message":"debuggee","request_seq":5,"seq":6,"success":false,"type":"response"}
+phase Running
+poll
+< {"body":{"category":"stdout","output":"go\n"},"event":"output","seq":7,"type":"event"}
+poll
+< {"body":{"allThreadsStopped":true,"reason":"entry","threadId":1},"event":"stopped","seq":8,"type":"event"}
+phase Stopped
+> {"seq":6,"type":"request","command":"stackTrace","arguments":{"threadId":1}}
+turn
+< {"body":{"stackFrames":[{"column":1,"id":1,"line":1,"name":"main","source":{"name":"a.c","path":"/a.c","sourceReference":1}}],"totalFrames":1},"command":"stackTrace","request_seq":6,"seq":9,"success":true,"type":"response"}
+references 1
+> {"seq":7,"type":"request","command":"stepBack","arguments":{"threadId":1}}
+turn
+< {"body":{"error":{"format":"{why}","id":1013,"showUser":true,"variables":{"why":"Not \"now\"."}}},"command":"stepBack","message":"debuggee","request_seq":7,"seq":10,"success":false,"type":"response"}
+references 1
+phase Stopped
+> {"seq":8,"type":"request","command":"reverseContinue","arguments":{"threadId":1}}
+turn
+< {"body":{"error":{"format":"{why}","id":1013,"showUser":true,"variables":{"why":"Not \"now\"."}}},"command":"reverseContinue","message":"debuggee","request_seq":8,"seq":11,"success":false,"type":"response"}
+references 1
+phase Stopped
+> {"seq":9,"type":"request","command":"next","arguments":{"threadId":1}}
+turn
+< {"command":"next","request_seq":9,"seq":12,"success":true,"type":"response"}
+references 0
+phase Running
+"#,
+    r#"
+# The failure of `launch` has 1024 bytes, that of `pause` one less. That of `stepBack` would have two more: its reason is left out.
+row a reason of an act that just fits
+debuggee says zzzzzzzzzzzzzzzzzzzzzzzzzzzzzzzzzzzzzzzzzzzzzzzzzzzzzzzzzzzzzzzzzzzzzzzzzzzzzzzzzzzzzzzzzzzzzzzzzzzzzzzzzzzzzzzzzzzzzzzzzzzzzzzzzzzzzzzzzzzzzzzzzzzzzzzzzzzzzzzzzzzzzzzzzzzzzzzzzzzzzzzzzzzzzzzzzzzzzzzzzzzzzzzzzzzzzzzzzzzzzzzzzzzzzzzzzzzzzzzzzzzzzzzzzzzzzzzzzzzzzzzzzzzzzzzzzzzzzzzzzzzzzzzzzzzzzzzzzzzzzzzzzzzzzzzzzzzzzzzzzzzzzzzzzzzzzzzzzzzzzzzzzzzzzzzzzzzzzzzzzzzzzzzzzzzzzzzzzzzzzzzzzzzzzzzzzzzzzzzzzzzzzzzzzzzzzzzzzzzzzzzzzzzzzzzzzzzzzzzzzzzzzzzzzzzzzzzzzzzzzzzzzzzzzzzzzzzzzzzzzzzzzzzzzzzzzzzzzzzzzzzzzzzzzzzzzzzzzzzzzzzzzzzzzzzzzzzzzzzzzzzzzzzzzzzzzzzzzzzzzzzzzzzzzzzzzzzzzzzzzzzzzzzzzzzzzzzzzzzzzzzzzzzzzzzzzzzzzzzzzzzzzzzzzzzzzzzzzzzzzzzzzzzzzzzzzzzzzzzzzzzzzzzzzzzzzzzzzzzzzzzzzzzzzzzzzzzzzzzzzzzzzzzzzzzzzzzzzzzzzzzzzzzzzzzzzzzzzzzzzzzzzzzzzzzzzzzzzzzzzzzzzzzzzzzzzzzzzzzzzzzzzzzzzzzzzzzzzzzzzzzzzzzzzzzzzzzzzzzzzzzzzzzzzzzzzzzzzzzz
+limits 8192 1024 64 65536 4096 9007199254740991 2147483647
+> {"seq":1,"type":"request","command":"initialize","arguments":{"adapterID":"rec"}}
+turn
+< capabilities seq 1 to 1
+< {"event":"initialized","seq":2,"type":"event"}
+> {"seq":2,"type":"request","command":"configurationDone"}
+turn
+< {"command":"configurationDone","request_seq":2,"seq":3,"success":true,"type":"response"}
+> {"seq":3,"type":"request","command":"launch"}
+turn
+< {"body":{"error":{"format":"{why}","id":1013,"showUser":true,"variables":{"why":"zzzzzzzzzzzzzzzzzzzzzzzzzzzzzzzzzzzzzzzzzzzzzzzzzzzzzzzzzzzzzzzzzzzzzzzzzzzzzzzzzzzzzzzzzzzzzzzzzzzzzzzzzzzzzzzzzzzzzzzzzzzzzzzzzzzzzzzzzzzzzzzzzzzzzzzzzzzzzzzzzzzzzzzzzzzzzzzzzzzzzzzzzzzzzzzzzzzzzzzzzzzzzzzzzzzzzzzzzzzzzzzzzzzzzzzzzzzzzzzzzzzzzzzzzzzzzzzzzzzzzzzzzzzzzzzzzzzzzzzzzzzzzzzzzzzzzzzzzzzzzzzzzzzzzzzzzzzzzzzzzzzzzzzzzzzzzzzzzzzzzzzzzzzzzzzzzzzzzzzzzzzzzzzzzzzzzzzzzzzzzzzzzzzzzzzzzzzzzzzzzzzzzzzzzzzzzzzzzzzzzzzzzzzzzzzzzzzzzzzzzzzzzzzzzzzzzzzzzzzzzzzzzzzzzzzzzzzzzzzzzzzzzzzzzzzzzzzzzzzzzzzzzzzzzzzzzzzzzzzzzzzzzzzzzzzzzzzzzzzzzzzzzzzzzzzzzzzzzzzzzzzzzzzzzzzzzzzzzzzzzzzzzzzzzzzzzzzzzzzzzzzzzzzzzzzzzzzzzzzzzzzzzzzzzzzzzzzzzzzzzzzzzzzzzzzzzzzzzzzzzzzzzzzzzzzzzzzzzzzzzzzzzzzzzzzzzzzzzzzzzzzzzzzzzzzzzzzzzzzzzzzzzzzzzzzzzzzzzzzzzzzzzzzzzzzzzzzzzzzzzzzzzzzzzzzzzzzzzzzzzzzzzzzzzzzzzzzzzzzzzzzzzzzzzzzzzzzzzzzzzzzzzzzzzzzzzzzzzzzz"}}},"command":"launch","message":"debuggee","request_seq":3,"seq":4,"success":false,"type":"response"}
+phase Configured
+> {"seq":4,"type":"request","command":"launch"}
+turn
+< {"command":"launch","request_seq":4,"seq":5,"success":true,"type":"response"}
+phase Running
+> {"seq":5,"type":"request","command":"pause","arguments":{"threadId":1}}
+turn
+< {"body":{"error":{"format":"{why}","id":1013,"showUser":true,"variables":{"why":"zzzzzzzzzzzzzzzzzzzzzzzzzzzzzzzzzzzzzzzzzzzzzzzzzzzzzzzzzzzzzzzzzzzzzzzzzzzzzzzzzzzzzzzzzzzzzzzzzzzzzzzzzzzzzzzzzzzzzzzzzzzzzzzzzzzzzzzzzzzzzzzzzzzzzzzzzzzzzzzzzzzzzzzzzzzzzzzzzzzzzzzzzzzzzzzzzzzzzzzzzzzzzzzzzzzzzzzzzzzzzzzzzzzzzzzzzzzzzzzzzzzzzzzzzzzzzzzzzzzzzzzzzzzzzzzzzzzzzzzzzzzzzzzzzzzzzzzzzzzzzzzzzzzzzzzzzzzzzzzzzzzzzzzzzzzzzzzzzzzzzzzzzzzzzzzzzzzzzzzzzzzzzzzzzzzzzzzzzzzzzzzzzzzzzzzzzzzzzzzzzzzzzzzzzzzzzzzzzzzzzzzzzzzzzzzzzzzzzzzzzzzzzzzzzzzzzzzzzzzzzzzzzzzzzzzzzzzzzzzzzzzzzzzzzzzzzzzzzzzzzzzzzzzzzzzzzzzzzzzzzzzzzzzzzzzzzzzzzzzzzzzzzzzzzzzzzzzzzzzzzzzzzzzzzzzzzzzzzzzzzzzzzzzzzzzzzzzzzzzzzzzzzzzzzzzzzzzzzzzzzzzzzzzzzzzzzzzzzzzzzzzzzzzzzzzzzzzzzzzzzzzzzzzzzzzzzzzzzzzzzzzzzzzzzzzzzzzzzzzzzzzzzzzzzzzzzzzzzzzzzzzzzzzzzzzzzzzzzzzzzzzzzzzzzzzzzzzzzzzzzzzzzzzzzzzzzzzzzzzzzzzzzzzzzzzzzzzzzzzzzzzzzzzzzzzzzzzzzzzzzzzzzzzzzzzzzzzzzzzz"}}},"command":"pause","message":"debuggee","request_seq":5,"seq":6,"success":false,"type":"response"}
+phase Running
+poll
+< {"body":{"category":"stdout","output":"go\n"},"event":"output","seq":7,"type":"event"}
+poll
+< {"body":{"allThreadsStopped":true,"reason":"entry","threadId":1},"event":"stopped","seq":8,"type":"event"}
+phase Stopped
+> {"seq":6,"type":"request","command":"stepBack","arguments":{"threadId":1}}
+turn
+< debuggee seq 9 to 6 stepBack
+phase Stopped
+"#,
+    r#"
+# With one more `launch` fails without its reason, and the failure of `pause` just fits.
+row a reason of an act that is a byte too long
+debuggee says zzzzzzzzzzzzzzzzzzzzzzzzzzzzzzzzzzzzzzzzzzzzzzzzzzzzzzzzzzzzzzzzzzzzzzzzzzzzzzzzzzzzzzzzzzzzzzzzzzzzzzzzzzzzzzzzzzzzzzzzzzzzzzzzzzzzzzzzzzzzzzzzzzzzzzzzzzzzzzzzzzzzzzzzzzzzzzzzzzzzzzzzzzzzzzzzzzzzzzzzzzzzzzzzzzzzzzzzzzzzzzzzzzzzzzzzzzzzzzzzzzzzzzzzzzzzzzzzzzzzzzzzzzzzzzzzzzzzzzzzzzzzzzzzzzzzzzzzzzzzzzzzzzzzzzzzzzzzzzzzzzzzzzzzzzzzzzzzzzzzzzzzzzzzzzzzzzzzzzzzzzzzzzzzzzzzzzzzzzzzzzzzzzzzzzzzzzzzzzzzzzzzzzzzzzzzzzzzzzzzzzzzzzzzzzzzzzzzzzzzzzzzzzzzzzzzzzzzzzzzzzzzzzzzzzzzzzzzzzzzzzzzzzzzzzzzzzzzzzzzzzzzzzzzzzzzzzzzzzzzzzzzzzzzzzzzzzzzzzzzzzzzzzzzzzzzzzzzzzzzzzzzzzzzzzzzzzzzzzzzzzzzzzzzzzzzzzzzzzzzzzzzzzzzzzzzzzzzzzzzzzzzzzzzzzzzzzzzzzzzzzzzzzzzzzzzzzzzzzzzzzzzzzzzzzzzzzzzzzzzzzzzzzzzzzzzzzzzzzzzzzzzzzzzzzzzzzzzzzzzzzzzzzzzzzzzzzzzzzzzzzzzzzzzzzzzzzzzzzzzzzzzzzzzzzzzzzzzzzzzzzzzzzzzzzzzzzzzzzzzzzzzzzzzzzzzzzzzzzzzzzzzzzzzzzzzzzzzzzzzz
+limits 8192 1024 64 65536 4096 9007199254740991 2147483647
+> {"seq":1,"type":"request","command":"initialize","arguments":{"adapterID":"rec"}}
+turn
+< capabilities seq 1 to 1
+< {"event":"initialized","seq":2,"type":"event"}
+> {"seq":2,"type":"request","command":"configurationDone"}
+turn
+< {"command":"configurationDone","request_seq":2,"seq":3,"success":true,"type":"response"}
+> {"seq":3,"type":"request","command":"launch"}
+turn
+< debuggee seq 4 to 3 launch
+phase Configured
+> {"seq":4,"type":"request","command":"launch"}
+turn
+< {"command":"launch","request_seq":4,"seq":5,"success":true,"type":"response"}
+phase Running
+> {"seq":5,"type":"request","command":"pause","arguments":{"threadId":1}}
+turn
+< {"body":{"error":{"format":"{why}","id":1013,"showUser":true,"variables":{"why":"zzzzzzzzzzzzzzzzzzzzzzzzzzzzzzzzzzzzzzzzzzzzzzzzzzzzzzzzzzzzzzzzzzzzzzzzzzzzzzzzzzzzzzzzzzzzzzzzzzzzzzzzzzzzzzzzzzzzzzzzzzzzzzzzzzzzzzzzzzzzzzzzzzzzzzzzzzzzzzzzzzzzzzzzzzzzzzzzzzzzzzzzzzzzzzzzzzzzzzzzzzzzzzzzzzzzzzzzzzzzzzzzzzzzzzzzzzzzzzzzzzzzzzzzzzzzzzzzzzzzzzzzzzzzzzzzzzzzzzzzzzzzzzzzzzzzzzzzzzzzzzzzzzzzzzzzzzzzzzzzzzzzzzzzzzzzzzzzzzzzzzzzzzzzzzzzzzzzzzzzzzzzzzzzzzzzzzzzzzzzzzzzzzzzzzzzzzzzzzzzzzzzzzzzzzzzzzzzzzzzzzzzzzzzzzzzzzzzzzzzzzzzzzzzzzzzzzzzzzzzzzzzzzzzzzzzzzzzzzzzzzzzzzzzzzzzzzzzzzzzzzzzzzzzzzzzzzzzzzzzzzzzzzzzzzzzzzzzzzzzzzzzzzzzzzzzzzzzzzzzzzzzzzzzzzzzzzzzzzzzzzzzzzzzzzzzzzzzzzzzzzzzzzzzzzzzzzzzzzzzzzzzzzzzzzzzzzzzzzzzzzzzzzzzzzzzzzzzzzzzzzzzzzzzzzzzzzzzzzzzzzzzzzzzzzzzzzzzzzzzzzzzzzzzzzzzzzzzzzzzzzzzzzzzzzzzzzzzzzzzzzzzzzzzzzzzzzzzzzzzzzzzzzzzzzzzzzzzzzzzzzzzzzzzzzzzzzzzzzzzzzzzzzzzzzzzzzzzzzzzzzzzzzzzzzzzzzzzzzzzz"}}},"command":"pause","message":"debuggee","request_seq":5,"seq":6,"success":false,"type":"response"}
+phase Running
+poll
+< {"body":{"category":"stdout","output":"go\n"},"event":"output","seq":7,"type":"event"}
+poll
+< {"body":{"allThreadsStopped":true,"reason":"entry","threadId":1},"event":"stopped","seq":8,"type":"event"}
+phase Stopped
+> {"seq":6,"type":"request","command":"stepBack","arguments":{"threadId":1}}
+turn
+< debuggee seq 9 to 6 stepBack
+phase Stopped
+"#,
+    r#"
+# What is parked is measured with the greatest own number, which has 16 digits: its failure has 1009 bytes here.
+row a reason for what is parked that just fits
+debuggee says zzzzzzzzzzzzzzzzzzzzzzzzzzzzzzzzzzzzzzzzzzzzzzzzzzzzzzzzzzzzzzzzzzzzzzzzzzzzzzzzzzzzzzzzzzzzzzzzzzzzzzzzzzzzzzzzzzzzzzzzzzzzzzzzzzzzzzzzzzzzzzzzzzzzzzzzzzzzzzzzzzzzzzzzzzzzzzzzzzzzzzzzzzzzzzzzzzzzzzzzzzzzzzzzzzzzzzzzzzzzzzzzzzzzzzzzzzzzzzzzzzzzzzzzzzzzzzzzzzzzzzzzzzzzzzzzzzzzzzzzzzzzzzzzzzzzzzzzzzzzzzzzzzzzzzzzzzzzzzzzzzzzzzzzzzzzzzzzzzzzzzzzzzzzzzzzzzzzzzzzzzzzzzzzzzzzzzzzzzzzzzzzzzzzzzzzzzzzzzzzzzzzzzzzzzzzzzzzzzzzzzzzzzzzzzzzzzzzzzzzzzzzzzzzzzzzzzzzzzzzzzzzzzzzzzzzzzzzzzzzzzzzzzzzzzzzzzzzzzzzzzzzzzzzzzzzzzzzzzzzzzzzzzzzzzzzzzzzzzzzzzzzzzzzzzzzzzzzzzzzzzzzzzzzzzzzzzzzzzzzzzzzzzzzzzzzzzzzzzzzzzzzzzzzzzzzzzzzzzzzzzzzzzzzzzzzzzzzzzzzzzzzzzzzzzzzzzzzzzzzzzzzzzzzzzzzzzzzzzzzzzzzzzzzzzzzzzzzzzzzzzzzzzzzzzzzzzzzzzzzzzzzzzzzzzzzzzzzzzzzzzzzzzzzzzzzzzzzzzzzzzzzzzzzzzzzzzzzzzzzzzzzzzzzzzzzzzzzzzzzzzzzzzzzzzzzzzzzzzzzzzzzz
+limits 8192 1024 64 65536 4096 9007199254740991 2147483647
+> {"seq":1,"type":"request","command":"initialize","arguments":{"adapterID":"rec"}}
+turn
+< capabilities seq 1 to 1
+< {"event":"initialized","seq":2,"type":"event"}
+> {"seq":2,"type":"request","command":"launch"}
+turn
+phase Parked
+> {"seq":3,"type":"request","command":"configurationDone"}
+turn
+< {"command":"configurationDone","request_seq":3,"seq":3,"success":true,"type":"response"}
+< {"body":{"error":{"format":"{why}","id":1013,"showUser":true,"variables":{"why":"zzzzzzzzzzzzzzzzzzzzzzzzzzzzzzzzzzzzzzzzzzzzzzzzzzzzzzzzzzzzzzzzzzzzzzzzzzzzzzzzzzzzzzzzzzzzzzzzzzzzzzzzzzzzzzzzzzzzzzzzzzzzzzzzzzzzzzzzzzzzzzzzzzzzzzzzzzzzzzzzzzzzzzzzzzzzzzzzzzzzzzzzzzzzzzzzzzzzzzzzzzzzzzzzzzzzzzzzzzzzzzzzzzzzzzzzzzzzzzzzzzzzzzzzzzzzzzzzzzzzzzzzzzzzzzzzzzzzzzzzzzzzzzzzzzzzzzzzzzzzzzzzzzzzzzzzzzzzzzzzzzzzzzzzzzzzzzzzzzzzzzzzzzzzzzzzzzzzzzzzzzzzzzzzzzzzzzzzzzzzzzzzzzzzzzzzzzzzzzzzzzzzzzzzzzzzzzzzzzzzzzzzzzzzzzzzzzzzzzzzzzzzzzzzzzzzzzzzzzzzzzzzzzzzzzzzzzzzzzzzzzzzzzzzzzzzzzzzzzzzzzzzzzzzzzzzzzzzzzzzzzzzzzzzzzzzzzzzzzzzzzzzzzzzzzzzzzzzzzzzzzzzzzzzzzzzzzzzzzzzzzzzzzzzzzzzzzzzzzzzzzzzzzzzzzzzzzzzzzzzzzzzzzzzzzzzzzzzzzzzzzzzzzzzzzzzzzzzzzzzzzzzzzzzzzzzzzzzzzzzzzzzzzzzzzzzzzzzzzzzzzzzzzzzzzzzzzzzzzzzzzzzzzzzzzzzzzzzzzzzzzzzzzzzzzzzzzzzzzzzzzzzzzzzzzzzzzzzzzzzzzzzzzzzzzzzzzzzzzzzzzzzzzzzzzzzzzzzzzzzzzzzz"}}},"command":"launch","message":"debuggee","request_seq":2,"seq":4,"success":false,"type":"response"}
+kept 0
+phase Configured
+"#,
+    r#"
+# One more, and it is left out, though it would fit here.
+row a reason for what is parked that is a byte too long
+debuggee says zzzzzzzzzzzzzzzzzzzzzzzzzzzzzzzzzzzzzzzzzzzzzzzzzzzzzzzzzzzzzzzzzzzzzzzzzzzzzzzzzzzzzzzzzzzzzzzzzzzzzzzzzzzzzzzzzzzzzzzzzzzzzzzzzzzzzzzzzzzzzzzzzzzzzzzzzzzzzzzzzzzzzzzzzzzzzzzzzzzzzzzzzzzzzzzzzzzzzzzzzzzzzzzzzzzzzzzzzzzzzzzzzzzzzzzzzzzzzzzzzzzzzzzzzzzzzzzzzzzzzzzzzzzzzzzzzzzzzzzzzzzzzzzzzzzzzzzzzzzzzzzzzzzzzzzzzzzzzzzzzzzzzzzzzzzzzzzzzzzzzzzzzzzzzzzzzzzzzzzzzzzzzzzzzzzzzzzzzzzzzzzzzzzzzzzzzzzzzzzzzzzzzzzzzzzzzzzzzzzzzzzzzzzzzzzzzzzzzzzzzzzzzzzzzzzzzzzzzzzzzzzzzzzzzzzzzzzzzzzzzzzzzzzzzzzzzzzzzzzzzzzzzzzzzzzzzzzzzzzzzzzzzzzzzzzzzzzzzzzzzzzzzzzzzzzzzzzzzzzzzzzzzzzzzzzzzzzzzzzzzzzzzzzzzzzzzzzzzzzzzzzzzzzzzzzzzzzzzzzzzzzzzzzzzzzzzzzzzzzzzzzzzzzzzzzzzzzzzzzzzzzzzzzzzzzzzzzzzzzzzzzzzzzzzzzzzzzzzzzzzzzzzzzzzzzzzzzzzzzzzzzzzzzzzzzzzzzzzzzzzzzzzzzzzzzzzzzzzzzzzzzzzzzzzzzzzzzzzzzzzzzzzzzzzzzzzzzzzzzzzzzzzzzzzzzzzzzzzzzzzzzzzz
+limits 8192 1024 64 65536 4096 9007199254740991 2147483647
+> {"seq":1,"type":"request","command":"initialize","arguments":{"adapterID":"rec"}}
+turn
+< capabilities seq 1 to 1
+< {"event":"initialized","seq":2,"type":"event"}
+> {"seq":2,"type":"request","command":"launch"}
+turn
+phase Parked
+> {"seq":3,"type":"request","command":"configurationDone"}
+turn
+< {"command":"configurationDone","request_seq":3,"seq":3,"success":true,"type":"response"}
+< debuggee seq 4 to 2 launch
+kept 0
+phase Configured
 "#,
 ];
 

@@ -13,7 +13,7 @@
 
 use crate::telling::{add_all, add_children, add_value};
 use dap_command::SourceKey;
-use dap_debuggee::{Debuggee, DebuggeeFault, Frame, Happening, How};
+use dap_debuggee::{ActFault, Debuggee, DebuggeeFault, Frame, Happening, How};
 use dap_json::Text;
 use dap_replay::Recorded;
 use std::alloc::Global;
@@ -41,10 +41,12 @@ pub(crate) fn faulted(fault: DebuggeeFault) -> &'static str {
 }
 
 /// The answer of an act, as a word.
-fn answered(done: Result<(), DebuggeeFault>) -> &'static str {
+fn answered(done: Result<(), ActFault>) -> &'static str {
     match done {
         Ok(()) => "done",
-        Err(fault) => faulted(fault),
+        Err(ActFault::Refused(None)) => "refused",
+        Err(ActFault::Refused(Some(_))) => "explained",
+        Err(ActFault::OutOfMemory) => "memory",
     }
 }
 

@@ -406,42 +406,71 @@ fn is_answered(alloc: Global, stubborn: Stubborn, words: &str, wanted: &str) -> 
     is_so
 }
 
-/// Whether a debuggee of the three moments answers so, one that refuses its first start or one that does not.
-fn is_stubborn(alloc: Global, refuses: bool, words: &str, wanted: &str) -> bool {
-    match three_moments(alloc) {
-        Some(recorded) if refuses => is_answered(alloc, Stubborn::new(recorded), words, wanted),
-        Some(recorded) => is_answered(alloc, Stubborn::willing(recorded), words, wanted),
+/// How a stubborn debuggee is opened.
+#[derive(Clone, Copy)]
+enum Opening {
+    /// It refuses its first start.
+    Stubborn,
+    /// It refuses nothing that the recording does not refuse.
+    Willing,
+    /// It refuses its first start, each pause and each way back, and says why.
+    Saying,
+}
+
+fn stubborn(alloc: Global, opening: Opening, recorded: Recorded) -> Option<Stubborn> {
+    match opening {
+        Opening::Stubborn => Some(Stubborn::new(recorded)),
+        Opening::Willing => Some(Stubborn::willing(recorded)),
+        Opening::Saying => match Text::copied(alloc, "no") {
+            Ok(why) => Some(Stubborn::saying(recorded, why)),
+            Err(_) => None,
+        },
+    }
+}
+
+/// Whether a debuggee of the three moments answers so.
+fn is_stubborn(alloc: Global, opening: Opening, words: &str, wanted: &str) -> bool {
+    let Some(recorded) = three_moments(alloc) else {
+        return false;
+    };
+    match stubborn(alloc, opening, recorded) {
+        Some(debuggee) => is_answered(alloc, debuggee, words, wanted),
         None => false,
     }
 }
 
-/// A second debuggee keeps the laws: it may refuse once, and what is set gets a long value; else it is as the recording.
-static STUBBORN: [(bool, &str, &str); 4] = [
+/// A second debuggee keeps the laws: it may refuse, with a reason or without, and what is set gets a long value; else it is as the recording.
+static STUBBORN: [(Opening, &str, &str); 5] = [
     (
-        true,
+        Opening::Stubborn,
         "start poll line start poll poll next poll end",
         "refused; nothing; set; done; stdout 3 go\n; entry 1 line 1; done; step 1 line 2; ended; ",
     ),
     (
-        true,
+        Opening::Stubborn,
         "start start start poll poll children:1",
         "refused; done; refused; stdout 3 go\n; entry 1 line 1; x=1; p=P+; ; ",
     ),
     (
-        false,
+        Opening::Willing,
         "start poll poll assigned:1:x:9 assigned:1:y:9 assign:1:x:9 children:1 value:0:x",
         "done; stdout 3 go\n; entry 1 line 1; long; refused; set; x=long; p=P+; ; long; ",
     ),
     (
-        false,
+        Opening::Willing,
         "start poll poll assign:1:x:9 stepBack poll children:1",
         "done; stdout 3 go\n; entry 1 line 1; set; done; step 1 line 1; x=1; p=P+; ; ",
+    ),
+    (
+        Opening::Saying,
+        "start start pause poll poll stepBack next poll",
+        "explained; done; explained; stdout 3 go\n; entry 1 line 1; explained; done; step 1 line 2; ",
     ),
 ];
 
 #[test]
 fn a_stubborn_debuggee(rt: HostRuntime) {
-    for (refuses, words, wanted) in &STUBBORN {
-        assert!(rt; is_stubborn(rt.alloc(), *refuses, words, wanted), "{words}");
+    for (opening, words, wanted) in &STUBBORN {
+        assert!(rt; is_stubborn(rt.alloc(), *opening, words, wanted), "{words}");
     }
 }

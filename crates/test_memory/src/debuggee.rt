@@ -45,7 +45,7 @@ fn runs(alloc: Global, debuggee: &mut Recorded) -> Option<bool> {
     if !sets(alloc, debuggee) {
         return None;
     }
-    if debuggee.start(alloc) != Ok(()) {
+    if debuggee.start(alloc).is_err() {
         return Some(false);
     }
     tells_both(alloc, debuggee)
@@ -168,7 +168,7 @@ fn answers(alloc: Global, debuggee: &Recorded, query: Query) -> Option<bool> {
 
 /// Each query is made, also after one that was refused memory.
 fn answers_all(alloc: Global, debuggee: &mut Recorded, queries: &[Query]) -> Option<bool> {
-    if debuggee.start(alloc) != Ok(()) {
+    if debuggee.start(alloc).is_err() {
         return Some(false);
     }
     let mut outcome = Some(true);
@@ -259,7 +259,7 @@ fn value_after(is_set: Option<bool>, text: &'static str, before: &'static str) -
 /// `p` is set twice and its child once, each also after one that was refused memory. Where it was, `p` has the value that it
 /// had.
 fn puts_all(alloc: Global, debuggee: &mut Recorded) -> Option<bool> {
-    if debuggee.start(alloc) != Ok(()) {
+    if debuggee.start(alloc).is_err() {
         return Some(false);
     }
     let first = puts(alloc, debuggee, 1, "p", "Q");

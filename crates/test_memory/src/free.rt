@@ -517,7 +517,7 @@ fn sets_and_goes_on(alloc: Global, debuggee: &mut Recorded) -> Option<bool> {
     }
     match debuggee.assigned(alloc, 1, "x", "9") {
         Ok(_) => match debuggee.assign(alloc, 1, "x", "9") {
-            Ok(()) => Some(debuggee.resume(alloc, How::Next, 1) == Ok(())),
+            Ok(()) => Some(debuggee.resume(alloc, How::Next, 1).is_ok()),
             Err(_) => None,
         },
         Err(fault) => refused(fault == DebuggeeFault::OutOfMemory),

@@ -13,7 +13,7 @@ tell_fed-requires-clause-in_a_run c = ap (λ (z : HostState). has_debuggee z.ada
 pub returns-in-Ok-push_messages-clause-tells : goal.returns-in-Ok-push_messages-clause-tells
 returns-in-Ok-push_messages-clause-tells c =
     told_at _ c.args.self.now _ c.args.coming c.in-Ok.dropped c.tell_fed.new.bytes.items c.args.out.now.items c.push_messages.new.out.items c.self.view_is c.in-Ok.ensures.tells
-    (λ outs are. c.in-Ok-push_messages.ensures outs (c.deref.ensures.value ∙ are)) (record { limits = refl; longest = refl; number = refl })
+    (λ outs are. c.in-Ok-push_messages.ensures outs (c.deref.ensures.value ∙ are)) (record { limits = refl; longest = refl; number = refl; ahead = refl })
 
 pub returns-in-Ok-push_messages-clause-going : goal.returns-in-Ok-push_messages-clause-going
 returns-in-Ok-push_messages-clause-going c = polls_on_at _ c.args.self.now _ c.args.coming c.in-Ok.dropped c.tell_fed.new.bytes.items c.self.view_is c.requires.going c.bodies_come_one_by_one.ensures c.in-Ok.ensures.tells refl

@@ -1,19 +1,19 @@
 use Rattle.std.proofs.Common.{◌∙◌, ◌+◌, ap, arith, length, length-append}
 use Rattle.dap_envelope.specs.Canon.{canon}
-use Rattle.dap_message.specs.MessageParts.{explained_response}
+use Rattle.dap_outbox.specs.Draft.{explained, message_of, reply}
 use Rattle.dap_outbox.proofs.Outboxes.{framed, reads-text, writes-behind}
 use Rattle.dap_outbox.proofs.outbox.Outbox.explain_within.Goals as goal
 
 pub returns-clause-writes : goal.returns-clause-writes
 returns-clause-writes c =
-    let m = explained_response (c.args.self.now.numbers.used + 1) c.args.request.now.seq c.args.request.now.command c.args.told.now.show_user c.args.told.now.text in
-    let text = rw (c.as_str-command.ensures, c.as_str-why.ensures, c.next-seq.ensures.number) at c.in_ok-append_explained.ensures.canon in
-    let reads = rw (c.as_str-command.ensures, c.as_str-why.ensures, c.next-seq.ensures.number) at c.in_ok-append_explained.ensures.reads_back in
+    let m = message_of (c.args.self.now.numbers.used + 1) (reply c.args.request.now (explained c.args.told.now)) in
+    let text = rw c.next-seq.ensures.number at c.in_ok-append_why.ensures.canon in
+    let reads = rw c.next-seq.ensures.number at c.in_ok-append_why.ensures.reads_back in
     let is = c.len-end.ensures ∙ c.self.inside.buffer.ok.0 in
-    let after = framed c.self.inside.buffer.items c.append_explained.new.out.items c.frame_from.new.out.items _ c.len-end.result is text c.in_ok-frame_from.ensures.ok in
+    let after = framed c.self.inside.buffer.items c.append_why.new.out.items c.frame_from.new.out.items _ c.len-end.result is text c.in_ok-frame_from.ensures.ok in
     λ _. writes-behind _ c.self.inside.start c.self.inside.buffer.items c.frame_from.new.out.items c.args.self.now c.self.inside.numbers c.next-seq.result.1 _ c.self.view_is c.self.invariant
     after c.next-seq.ensures.used c.next-seq.ensures.last c.requires
     (λ small request.
     reads-text c.args.most m
-    (let measured = c.if-len-end.false in let total = c.len.ensures ∙ c.append_explained.new.out.ok.0 in let whole = ap length text ∙ length-append c.self.inside.buffer.items (canon m) in omega arith)
-    (reads small request.seq request.command))
+    (let measured = c.if-len-end.false in let total = c.len.ensures ∙ c.append_why.new.out.ok.0 in let whole = ap length text ∙ length-append c.self.inside.buffer.items (canon m) in omega arith)
+    (reads small request))

@@ -1,0 +1,41 @@
+//! Where the host said that breakpoints are.
+ghost use Rattle.std.specs.Prelude.{◌≡◌, IfOk};
+ghost use Rattle.dap_command.specs.SameSource.{is_source};
+ghost use Rattle.dap_live.specs.Placing.{is_of};
+
+use crate::mail::Placed;
+use dap_command::SourceKey;
+use dap_debuggee::Placement;
+use std::alloc::{AllocError, Global};
+
+fn is_source(one: &SourceKey, other: &SourceKey) -> bool
+    ensures { result ≡ is_source one.now other.now }
+{
+    match (one, other) {
+        (SourceKey::Path(path), SourceKey::Path(other)) => path.as_str() == other.as_str(),
+        (SourceKey::Reference(reference), SourceKey::Reference(other)) => reference == other,
+        _ => false,
+    }
+}
+
+impl Placed {
+    /// Whether it is of just this source and these lines.
+    pub(crate) fn is_of(&self, source: &SourceKey, lines: &[u32]) -> bool
+        ensures { result ≡ is_of source.now lines.now self.now }
+    {
+        is_source(&self.source, source)
+            && lines == self.lines.as_slice()
+            && self.placements.len() == lines.len()
+    }
+
+    /// A breakpoint for each line.
+    pub(crate) fn copied(&self, alloc: Global) -> Result<Vec<Placement>, AllocError>
+        ensures { IfOk result (λ copy. copy.items ≡ self.now.placements) }
+    {
+        let mut copy = Vec::with_capacity(alloc, self.placements.len())?;
+        for placement in self.placements.as_slice() {
+            copy.push(placement.clone()?)?;
+        }
+        Ok(copy)
+    }
+}
