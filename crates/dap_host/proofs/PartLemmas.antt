@@ -43,10 +43,10 @@ runs_still h k category text more before after (Err fault) tells run = tt
 -- ---- parts in turn
 
 same_both : (a b c : HostState) → SameButAdapter a b → SameButAdapter b c → SameButAdapter a c
-same_both a b c x y = record { limits = y.limits ∙ x.limits; longest = y.longest ∙ x.longest; number = y.number ∙ x.number }
+same_both a b c x y = record { limits = y.limits ∙ x.limits; longest = y.longest ∙ x.longest; number = y.number ∙ x.number; ahead = y.ahead ∙ x.ahead }
 
 same_in_turn : (old : HostState) (before : List ℕ) (new : HostState) (parts : List Coming) (after : List ℕ) → TellsInTurn old before parts after new → SameButAdapter old new
-same_in_turn old before _ _ _ none_told = record { limits = refl; longest = refl; number = refl }
+same_in_turn old before _ _ _ none_told = record { limits = refl; longest = refl; number = refl; ahead = refl }
 same_in_turn old before _ _ _ (one_more parts part middle after there new tells it) = same_both old there new (same_in_turn old before there parts middle tells) it.same
 
 pub same_until : (old new : HostState) (parts : List Coming) (before after : List ℕ) (dropped : Option Drop) → TellsUntil old parts before after new dropped → SameButAdapter old new
