@@ -2,7 +2,7 @@
 ghost use Rattle.std.specs.Prelude.{◌≡◌, ◌++◌, OnOk, OnErr, option_map};
 ghost use Rattle.serde_json.specs.Written.{compact_text};
 ghost use Rattle.dap_json.specs.Sound.{IsSound};
-ghost use Rattle.dap_body.specs.Row.{object_of, list_of, text, whole, integer, flag, tree, text_if_any, whole_if_any, tree_if_any};
+ghost use Rattle.dap_body.specs.Row.{flag_if_set, object_of, list_of, text, whole, integer, flag, tree, text_if_any, whole_if_any, tree_if_any};
 ghost use Rattle.dap_body.specs.PrivateText.{tokens_of, wrote, IsSoundField};
 
 use dap_json::Text;
