@@ -136,10 +136,10 @@ fn explain_rest(
     last: u64,
     most: usize,
 ) -> Result<(), AllocError>
-    requires room { outbox.old.numbers.used + length (chosen_of which kept.now.kept requests.entry) ≤ outbox.old.numbers.last }
+    requires room { outbox.old.numbers.used + length (chosen_of which kept.now.kept requests) ≤ outbox.old.numbers.last }
     requires last { outbox.old.numbers.last ≤ last }
     requires small { last ≤ max_seq }
-    requires fits { IsTrue (explanations_fit last most told.now (chosen_of which kept.now.kept requests.entry)) }
+    requires fits { IsTrue (explanations_fit last most told.now (chosen_of which kept.now.kept requests)) }
     ensures writes { OnOk result (WritesWithin most outbox.old outbox.new (answer_where (λ seq. is_chosen which kept.now.kept seq) (explained told.now) requests.entry)) }
     ensures before { outbox.new.before ≡ outbox.old.before }
 {
