@@ -1,4 +1,5 @@
 """A client of the adapter of examples/gdb, and what the scripts that try it share. It knows no program that is debugged."""
+import json
 import os
 import shutil
 import subprocess
@@ -65,18 +66,22 @@ def left_behind(seconds=5):
     return sorted(os.path.basename(os.readlink("/proc/%s/exe" % pid)) for pid in left)
 
 
-def judge(path):
-    """Whether a transcript is legal."""
+def judge(path, unoffered=None):
+    """Whether a transcript is legal, or breaks a rule by the one request of a command that was not offered."""
     with open(path, "rb") as file:
-        lines = len(file.readlines())
-    expect("the transcript of %d lines" % lines, run(["check", path, "--bodies"]), fine(b"legal\n"))
+        lines = file.readlines()
+    wanted = fine(b"legal\n")
+    if unoffered:
+        place = next(place for place, line in enumerate(lines, 1) if json.loads(line[2:]).get("command") == unoffered)
+        wanted = 3, b"line %d rule 5\n1 finding\n" % place, b""
+    expect("the transcript of %d lines" % len(lines), run(["check", path, "--bodies", "--all"]), wanted)
 
 
 class Client(client.Client):
     """A client of the adapter, whose transcript is written to a file."""
 
-    def __init__(self, folder, name, *words, seconds=120, says=(), **more):
-        self.path, self.says = os.path.join(folder, name), dict(says)
+    def __init__(self, folder, name, *words, seconds=120, says=(), unoffered=None, **more):
+        self.path, self.says, self.unoffered = os.path.join(folder, name), dict(says), unoffered
         super().__init__([ADAPTER, *words], seconds, **{"env": ENVIRONMENT, **more})
 
     def event(self, *names):
@@ -169,4 +174,4 @@ class Client(client.Client):
         """Writes the transcript, and judges it."""
         with open(self.path, "wb") as file:
             file.write(b"".join(self.transcript))
-        judge(self.path)
+        judge(self.path, self.unoffered)

@@ -162,7 +162,8 @@ func (c *client) session(program, source string) {
 	expect("what a pointer points at", "3 4", first["x"].Value, first["y"].Value)
 	expect("evaluate", "6", ask[*dap.EvaluateResponse](c, "evaluate", evaluation("shape.first->x * 2", top.Id)).Body.Result)
 	refused := ask[*dap.ErrorResponse](c, "evaluate", evaluation("nothing + 1", top.Id))
-	expect("evaluate what is not there", "debuggee The debuggee refused.", refused.Message, refused.Body.Error.Format)
+	expect("evaluate what is not there", "debuggee {why}", refused.Message, refused.Body.Error.Format)
+	expect("why", `No symbol "nothing" in current context.`, refused.Body.Error.Variables["why"])
 	change := dap.SetVariableArguments{VariablesReference: corners["[0]"].VariablesReference, Name: "x", Value: "7 + shape.first->x"}
 	changed := ask[*dap.SetVariableResponse](c, "setVariable", &dap.SetVariableRequest{Arguments: change}).Body.Value
 	expect("set a part", "10", changed)
