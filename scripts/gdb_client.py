@@ -98,15 +98,19 @@ class Client(client.Client):
             told[one["category"]] = told.get(one["category"], "") + one["output"]
         return told, last.get("body", {})
 
-    def start(self, lines, source=SOURCE, request="launch", **arguments):
-        """Starts the program with these breakpoints, and gives which are verified."""
+    def begin(self, lines, source=SOURCE, request="launch", **arguments):
+        """Asks for the program with these breakpoints, and gives the number of the request."""
         self.ask("initialize", adapterID="gdb", **self.says)
         self.event("initialized")
         asked = self.send(request, **arguments)
-        verified = self.set_breakpoints(lines, source)
+        self.verified = self.set_breakpoints(lines, source)
         self.ask("configurationDone")
-        self.answer_to(asked)
-        return verified
+        return asked
+
+    def start(self, lines, source=SOURCE, request="launch", **arguments):
+        """Starts the program with these breakpoints, and gives which are verified."""
+        self.answer_to(self.begin(lines, source, request, **arguments))
+        return self.verified
 
     def breakpoints(self, lines, source=SOURCE):
         """Sets breakpoints, and gives the line of each, if it is verified."""

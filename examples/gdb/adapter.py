@@ -27,7 +27,7 @@ sys.path.insert(0, os.path.dirname(os.path.abspath(__file__)))
 
 from debuggee import SIGNALS, Debuggee, Watch, fault_of, load, resume, select  # noqa: E402
 from launch import Launch  # noqa: E402
-from lines import Ended, Lines, output_lines, said  # noqa: E402
+from lines import Ended, Lines, line_of, output_lines, said  # noqa: E402
 from points import line_of_point  # noqa: E402
 from sources import Sources  # noqa: E402
 from stops import Stop  # noqa: E402
@@ -61,7 +61,7 @@ class Adapter:
         self.watch = Watch(seconds, lambda: self.later(self.tell_death))
         self.debuggee = Debuggee(self.watch)
         self.lines, self.heard, self.silent = None, [], False
-        self.launch, self.started, self.notes, self.first_line = None, False, [], 1
+        self.launch, self.refusal, self.started, self.notes, self.first_line = None, "", False, [], 1
         self.wants_types = False
         self.running, self.entry, self.here, self.setting, self.found_more = False, False, None, None, False
         self.ending, self.kills, self.attaching = None, False, False
@@ -290,8 +290,6 @@ class Adapter:
             self.tell_exit(NOT_STARTED)
 
     def run(self, launch):
-        if not gdb.current_progspace().filename:
-            return load(launch.named) if launch.named and launch.program is None else fault_of("run")
         self.entry = launch.stops
         return self.debuggee.start(launch.args, launch.cwd, launch.env, launch.stops)
 
@@ -338,20 +336,19 @@ class Adapter:
             self.later(self.fail, "the client's stream: %s" % fault)
 
     def hear(self, body):
-        separator, command, arguments = b" ", None, {}
+        separator, command, arguments, notes = b" ", None, {}, []
         try:
             message = json.loads(body)
             command, arguments = message["command"], message.get("arguments") or {}
-            if self.learn(command, arguments, message["seq"]):
-                body = json.dumps(message).encode()
+            notes = self.learn(command, arguments, message["seq"]) or []
         except (KeyError, TypeError, AttributeError, StopIteration, IndexError, gdb.error):
             pass  # `dap host` answers what is wrong with it
         except (ValueError, RecursionError):
             separator = b"\0"  # which is not JSON either
-        line = b"> " + separator.join(body.splitlines())
+        lines = [*notes, b"> " + separator.join(body.splitlines())]
         if not self.started:
-            self.heard.append(line)
-        self.hand_on([line])
+            self.heard += lines
+        self.hand_on(lines)
         if command == "evaluate" and arguments.get("context") == "repl" and self.stands():
             self.tell_change()
 
@@ -360,23 +357,26 @@ class Adapter:
 
     def object_of(self, kind, number):
         """The frame or the holder that a number of the client stands for."""
-        for target in self.hand_on([b"! " + json.dumps({"asked": "target", "number": number}).encode()]):
+        for target in self.hand_on([line_of(asked="target", number=number)]):
             if target["kind"] == kind:
                 return target["object"]
         raise KeyError(number)
 
     def learn(self, command, arguments, seq):
-        """Works out what the client asks for, before it is answered: whether its message was changed."""
+        """Works out what the client asks for, before it is answered: the lines that say something of the message, if any do."""
         if command == "initialize":
             self.first_line = 0 if arguments.get("linesStartAt1") is False else 1
             self.wants_types = arguments.get("supportsVariableType") is True
         elif command in ("launch", "attach") and not self.started:
             self.learn_launch(command, arguments)
+            return self.refusals()
+        elif command == "configurationDone" and not self.started:
+            return self.refusals()
         elif command in LAST:
             self.ending = seq if command == "disconnect" else self.ending
             self.kills = self.kills or command == "terminate" or arguments.get("terminateDebuggee") is True
         elif command == "setBreakpoints":
-            return self.move_points(arguments["source"].get("path"), arguments.get("breakpoints"), seq)
+            return self.places(arguments["source"].get("path"), arguments.get("breakpoints") or [], seq)
         elif command == "setExceptionBreakpoints":
             self.debuggee.stop_at_signals(arguments["filters"])
         elif command == "variables" and self.stands():
@@ -385,29 +385,32 @@ class Adapter:
             self.learn_value(arguments["expression"], arguments.get("frameId"))
         elif command == "setVariable" and self.stands():
             self.learn_setting(self.object_of("holder", arguments["variablesReference"]), arguments["name"], arguments["value"])
-        return False
 
     def learn_launch(self, command, arguments):
         self.launch = Launch(arguments, command == "attach")
-        program = self.launch.program_to_load()
-        if program is not None:
-            fault = load(program)
-            self.say_output("stderr" if command == "launch" else "console", fault)
-            if not fault:
-                self.start_lines()
+        program, self.refusal = self.launch.program_to_load(), ""
+        if program is None and command == "launch" and not gdb.current_progspace().filename:
+            program = self.launch.named or ""
+        if program is None:
+            return
+        fault = load(program) if program else fault_of("run")
+        if not fault:
+            self.start_lines()
+        elif command == "launch":
+            self.refusal = self.launch.faults() + fault
+        else:
+            self.say_output("console", fault)
 
-    def move_points(self, path, points, seq):
-        """Asks for breakpoints where gdb puts them, or, where it has no code for one, past the end of the source."""
-        lines, self.wanted[path], asked = self.sources.lines(path), {}, []
-        for point in points or ():
-            line = point["line"] + 1 - self.first_line
-            if lines:
-                line = line_of_point(path, line) or max(line, lines + 1)
-                point["line"] = line - 1 + self.first_line
-            self.wanted[path].setdefault(line, point)
-            asked.append((path, line))
-        self.asked[seq] = path, asked
-        return bool(points and lines)
+    def refusals(self):
+        """That the program can't be started, where that is known: it counts if this message is to start it."""
+        return [line_of(refuses=self.refusal.strip(), showUser=True)] if self.refusal else []
+
+    def places(self, path, points, seq):
+        """Where gdb puts breakpoints, as a line of `dap host` says it. What the client wants at each is kept until they are set."""
+        lines = [point["line"] + 1 - self.first_line for point in points]
+        self.asked[seq] = path, [(path, line) for line in lines]
+        self.wanted[path] = dict(reversed(list(zip(lines, points))))  # of two at one line the first
+        return [line_of(placed={"path": path}, breakpoints=[place_said(path, line) for line in lines])] if path else []
 
     def learn_numbers(self, answer):
         """The numbers that the client is given for breakpoints."""
@@ -455,6 +458,12 @@ class Adapter:
 
     def interruption(self):
         return "The evaluation was interrupted: %s.\n" % self.watch.reason if self.watch.reason else ""
+
+
+def place_said(path, line):
+    """Where gdb puts a breakpoint that is asked for at this line."""
+    place = line_of_point(path, line)
+    return {"asked": line, "line": place} if place else {"asked": line, "verified": False, "message": "gdb has no code for this line."}
 
 
 def tried(call):

@@ -54,9 +54,14 @@ class Lines:
             raise Ended(self.dap.wait()) from None
 
 
+def line_of(**members):
+    """A line that says these to `dap host`."""
+    return b"! " + json.dumps(members).encode()
+
+
 def said(happened, **more):
     """The line that says what the debugger did."""
-    return b"! " + json.dumps({"happened": happened, **more}).encode()
+    return line_of(happened=happened, **more)
 
 
 def output_lines(category, text):
