@@ -16,22 +16,22 @@ use Rattle.dap_tables.specs.declared.entry.Entry.{Entry}
 use Rattle.dap_outbox.specs.Outbox.{explanation_fits_as}
 
 -- a smaller number has no more digits
+digits-if : (short : Bool) (a b : ℕ) → nat_lt a 10 ≡ short → a ≤ b → b < 2 ^ 64 → (10 ≤ a → length (decimal (a / 10)) ≤ length (decimal (b / 10))) → length (decimal a) ≤ length (decimal b)
+digits-if true a b is h small rest =
+    let one : a < 10 = ltb-true a 10 is in
+    let short : length (decimal a) ≤ 1 = length-decimal-le 1 a (omega arith) (omega arith) (omega arith) in
+    let some : 0 < length (decimal b) = decimal_nonempty b small in
+    omega arith
+digits-if false a b is h small rest =
+    let more : 10 ≤ a = ltb-false a 10 is in
+    let left : length (decimal a) ≡ length (decimal (a / 10)) + 1 = ap length (decimal_step a more (omega arith)) ∙ length-append (decimal (a / 10)) _ in
+    let right : length (decimal b) ≡ length (decimal (b / 10)) + 1 = ap length (decimal_step b (omega arith) small) ∙ length-append (decimal (b / 10)) _ in
+    let fewer = rest more in
+    omega arith
+
 digits-le : (k a b : ℕ) → a ≤ b → b < 10 ^ k → b < 2 ^ 64 → length (decimal a) ≤ length (decimal b)
 digits-le zero a b h g small = let same : a ≡ b = omega arith in rw same (omega arith)
-digits-le (suc k) a b h g small = by (nat_lt a 10) refl
-  where
-    by : (short : Bool) → nat_lt a 10 ≡ short → length (decimal a) ≤ length (decimal b)
-    by true is =
-        let one : a < 10 = ltb-true a 10 is in
-        let short : length (decimal a) ≤ 1 = length-decimal-le 1 a (omega arith) (omega arith) (omega arith) in
-        let some : 0 < length (decimal b) = decimal_nonempty b small in
-        omega arith
-    by false is =
-        let more : 10 ≤ a = ltb-false a 10 is in
-        let left : length (decimal a) ≡ length (decimal (a / 10)) + 1 = ap length (decimal_step a more (omega arith)) ∙ length-append (decimal (a / 10)) _ in
-        let right : length (decimal b) ≡ length (decimal (b / 10)) + 1 = ap length (decimal_step b (omega arith) small) ∙ length-append (decimal (b / 10)) _ in
-        let rest = digits-le k (a / 10) (b / 10) (omega arith) (omega arith) (omega arith) in
-        omega arith
+digits-le (suc k) a b h g small = digits-if (nat_lt a 10) a b refl h small (λ more. digits-le k (a / 10) (b / 10) (omega arith) (omega arith) (omega arith))
 
 explained-size : (a b : ℕ) (r : Entry) (told : Explanation) → length (decimal a) ≤ length (decimal b) → length (canon (explained_response a r.seq r.command told.show_user told.text)) ≤ length (canon (explained_response b r.seq r.command told.show_user told.text))
 unfolding canon tree_of response_members escape_byte

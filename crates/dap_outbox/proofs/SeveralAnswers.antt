@@ -65,12 +65,6 @@ pub goes-unexplained : (most : ℕ) (passes : ℕ → Bool) (answer : Answer) (r
 goes-unexplained most passes answer requests rest r old final e is v = rw (e, none-pass passes r rest is) v
 
 -- a test of each request that passes
-pub all-here : (passes : ℕ → Bool) (test : Entry → Bool) (requests rest : List Entry) (r : Entry) → requests ≡ r ∷ rest → passes r.seq ≡ true → test r ≡ true → list_all test (filter (λ (x : Entry). passes x.seq) rest) ≡ list_all test (filter (λ (x : Entry). passes x.seq) requests)
-all-here passes test requests rest r e is yes = rw (e, some-pass passes r rest is, yes) refl
-
-pub all-not : (passes : ℕ → Bool) (test : Entry → Bool) (requests rest : List Entry) (r : Entry) → requests ≡ r ∷ rest → passes r.seq ≡ true → test r ≡ false → list_all test (filter (λ (x : Entry). passes x.seq) requests) ≡ false
-all-not passes test requests rest r e is no = rw (e, some-pass passes r rest is, no) refl
-
 pub all-passed : (passes : ℕ → Bool) (test : Entry → Bool) (requests rest : List Entry) (r : Entry) → requests ≡ r ∷ rest → passes r.seq ≡ false → list_all test (filter (λ (x : Entry). passes x.seq) rest) ≡ list_all test (filter (λ (x : Entry). passes x.seq) requests)
 all-passed passes test requests rest r e is = rw (e, none-pass passes r rest is) refl
 

@@ -170,9 +170,27 @@ pub fn explain_chosen(
     ensures too_long { IfOk result (λ ok. ok ≡ false → outbox.new ≡ outbox.old) }
     ensures before { outbox.new.before ≡ outbox.old.before }
 {
-    if !can_explain_rest(alloc, outbox, kept, kept.in_order(), which, told, last, most)? {
+    if !can_explain_rest(
+        alloc,
+        outbox,
+        kept,
+        kept.in_order(),
+        which,
+        told,
+        last,
+        most,
+    )? {
         return Ok(false);
     }
-    explain_rest(alloc, outbox, kept, kept.in_order(), which, told, last, most)?;
+    explain_rest(
+        alloc,
+        outbox,
+        kept,
+        kept.in_order(),
+        which,
+        told,
+        last,
+        most,
+    )?;
     Ok(true)
 }

@@ -18,9 +18,7 @@ use dap_call::{RUN_IN_TERMINAL, TerminalCall, write_terminal};
 use dap_debuggee::Explanation;
 use dap_json::{List, Text, Tree};
 use dap_message::laws::fixed_messages_are_short;
-use dap_message::{
-    append_answer, append_event, append_explained, append_failure, append_request,
-};
+use dap_message::{append_answer, append_event, append_explained, append_failure, append_request};
 use dap_tables::Entry;
 use std::alloc::{AllocError, Global};
 
@@ -70,15 +68,7 @@ pub(crate) fn append_why(
     ensures err { OnErr result (out.new.items ≡ out.old.items) }
 {
     let (command, why) = (request.command.as_str(), told.text.as_str());
-    append_explained(
-        alloc,
-        out,
-        seq,
-        request.seq,
-        command,
-        why,
-        told.show_user,
-    )
+    append_explained(alloc, out, seq, request.seq, command, why, told.show_user)
 }
 
 fn event_name(event: &Event) -> &'static str
