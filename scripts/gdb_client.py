@@ -158,10 +158,10 @@ class Client(client.Client):
         answer = self.ask("evaluate", expression=text, frameId=self.frames[level]["id"], **more)
         return answer if isinstance(answer, str) else answer["result"]
 
-    def why(self, text, level):
+    def why(self, text, level, **more):
         """Why a text has no value in a frame, in gdb's words."""
-        answer = self.answer_to(self.send("evaluate", expression=text, frameId=self.frames[level]["id"]), whole=True)
-        return answer["body"]["error"]["variables"]["why"]
+        asked = self.send("evaluate", expression=text, frameId=self.frames[level]["id"], **more)
+        return self.answer_to(asked, whole=True)["body"]["error"]["variables"]["why"]
 
     def set_variable(self, reference, name, value):
         return self.ask("setVariable", variablesReference=reference, name=name, value=value)["value"]
