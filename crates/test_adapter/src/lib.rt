@@ -12,6 +12,10 @@ mod greatest;
 #[cfg(test)]
 mod last_numbers;
 #[cfg(test)]
+mod moved;
+#[cfg(test)]
+mod next;
+#[cfg(test)]
 mod offers;
 #[cfg(test)]
 mod playing;
