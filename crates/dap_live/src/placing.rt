@@ -25,14 +25,14 @@ impl Placed {
     {
         is_source(&self.source, source)
             && lines == self.lines.as_slice()
-            && self.placements.len() == lines.len()
+            && self.placements.as_slice().len() == lines.len()
     }
 
     /// A breakpoint for each line.
     pub(crate) fn copied(&self, alloc: Global) -> Result<Vec<Placement>, AllocError>
         ensures { IfOk result (λ copy. copy.items ≡ self.now.placements) }
     {
-        let mut copy = Vec::with_capacity(alloc, self.placements.len())?;
+        let mut copy = Vec::with_capacity(alloc, self.placements.as_slice().len())?;
         for placement in self.placements.as_slice() {
             copy.push(placement.clone()?)?;
         }
