@@ -19,8 +19,8 @@ use dap_frame::Limits;
 use dap_json::object_reader::Scratch;
 use dap_json::{More, Text};
 use dap_line::{
-    Note, Refusal, Said, Told, Unread, body_refusal, coming_of, happening_in, push_acts, push_refusal,
-    push_target, read_said,
+    Note, Refusal, Said, Told, Unread, body_refusal, coming_of, happening_in, push_acts,
+    push_refusal, push_target, read_said,
 };
 use dap_live::{Ahead, Coming, Dropped, HostAct, Live, why_dropped};
 use dap_recording::{RecordingFault, Sources, Texts, piece_length};

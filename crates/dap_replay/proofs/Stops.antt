@@ -1,5 +1,5 @@
 -- A stop of a recorded debuggee lasts.
-use Rattle.std.proofs.Common.{◌≡◌, false, Option, refl, ◌∙◌, ap}
+use Rattle.std.proofs.Common.{◌≡◌, false, Option, None, refl, ◌∙◌, ap}
 use Rattle.dap_debuggee.specs.Laws.{ends_a_stop, StopsLast}
 use Rattle.dap_replay.specs.Played.{Played, Run, shown_of, FollowsPlayed, act_on, poll_result, poll_in, start_in, resume_in, pause_in}
 use Rattle.dap_debuggee.specs.Shown.{Act, to_start, to_resume, to_pause, to_poll, to_set_breakpoints, to_assign, to_end, Reply, done, refused}
