@@ -12,8 +12,8 @@ use crate::here::Here;
 use crate::mail::{Coming, Dropped, HostAct, Mail};
 use dap_command::SourceKey;
 use dap_debuggee::{
-    ActFault, Asked, Assigned, Debuggee, DebuggeeFault, Evaluation, Explanation, Frame, Happening, HasMail,
-    How, Placement, RefusedQuery, Scope, Source, State, Thread, Variable,
+    ActFault, Asked, Assigned, Debuggee, DebuggeeFault, Evaluation, Explanation, Frame, Happening,
+    HasMail, How, Placement, RefusedQuery, Scope, Source, State, Thread, Variable,
 };
 use dap_json::{List, More, Text};
 use dap_recording::variables::{self, HolderMap};

@@ -1,3 +1,4 @@
 pub mod Outboxes
 pub mod SeveralAnswers
 pub mod Explanations
+mod ExplanationExamples

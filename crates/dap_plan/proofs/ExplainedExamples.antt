@@ -1,9 +1,8 @@
 -- Worked examples of failures with why the debuggee refused, each shown by computation.
-use Rattle.std.proofs.Common.{◌≡◌, ℕ, List, [], ◌∷◌, true, false, codes, Option, Some, None, pos, refl}
-use Rattle.std.specs.Fmt.{digits}
-use Rattle.json.specs.Print.{escape_byte}
-use Rattle.dap_frame.specs.Settings.{settings, usual_settings}
-use Rattle.dap_envelope.specs.Canon.{canon, tree_of, response_members}
+use Rattle.std.proofs.Common.{◌≡◌, List, [], ◌∷◌, true, false, codes, Option, Some, None, pos, refl}
+use Rattle.std.specs.Prelude.{◌+◌, ◌&&◌}
+use Rattle.dap_frame.specs.Settings.{usual_settings}
+use Rattle.dap_outbox.specs.Outbox.{explanation_fits_as}
 use Rattle.dap_body.specs.declared.failure.Failure.{Failure}
 use Rattle.dap_body.specs.declared.failure.Failure.TheVariants.{Debuggee, TooLarge, StaleReference}
 use Rattle.dap_call.specs.declared.call.Call.{Call}
@@ -60,29 +59,14 @@ verified = (refl, refl)
 
 -- ---- acts
 
-abbrev launch : Entry
-launch = record { seq = 4; command = codes "launch"; arguments = None }
-
-abbrev four : Explanation
-four = record { text = codes "zzzz"; show_user = false }
-
--- of this limit on bodies
-abbrev within : ℕ → Session
-within body = fresh_session (settings 8192 body 64 65536 4096 9007199254740991 2147483647)
-
--- 168 bytes and the reason, with numbers of one digit
-of_an_act : (by_reply (within 172) launch (refused (Some four)) ≡ explained four) × (by_reply (within 171) launch (refused (Some four)) ≡ failure Debuggee)
-unfolding canon tree_of response_members escape_byte digits
-of_an_act = (refl, refl)
+-- it is measured with the number that comes next
+of_an_act : (s : Session) (r : Entry) (told : Explanation) → by_reply s r (refused (Some told)) ≡ explained_if (explanation_fits_as (s.used + 1) s.limits.body r told) told
+of_an_act s r told = refl
 
 -- what is done has none, and where none is given each answer is as it was
 without_a_reason_too : (s : Session) (r : Entry) (parked : List Kept) → (by_reply s r done ≡ plain_success) × (by_reply s r (refused None) ≡ failure Debuggee) × (by_reply_each s parked done ≡ plain_success) × (by_reply_each s parked (refused None) ≡ failure Debuggee)
 without_a_reason_too s r parked = (refl, refl, refl, refl)
 
-abbrev parked : List Kept
-parked = record { entry = launch; parked = true } ∷ []
-
--- with the greatest own number, which has fifteen digits more
-of_what_is_parked : (by_reply_each (within 187) parked (refused (Some four)) ≡ explained four) × (by_reply_each (within 186) parked (refused (Some four)) ≡ failure Debuggee)
-unfolding canon tree_of response_members escape_byte digits
-of_what_is_parked = (refl, refl)
+-- in each of them with the greatest own number
+of_what_is_parked : (s : Session) (one other : Kept) (told : Explanation) → by_reply_each s (one ∷ other ∷ []) (refused (Some told)) ≡ explained_if (explanation_fits_as s.limits.seq s.limits.body one.entry told && (explanation_fits_as s.limits.seq s.limits.body other.entry told && true)) told
+of_what_is_parked s one other told = refl

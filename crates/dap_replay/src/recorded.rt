@@ -10,8 +10,8 @@ use crate::moves::{Move, Plan, Reason};
 use crate::set_lines::SetLines;
 use dap_command::SourceKey;
 use dap_debuggee::{
-    ActFault, Asked, Assigned, Debuggee, DebuggeeFault, Evaluation, Explanation, Frame, Happening, How,
-    Placement, RefusedQuery, Scope, Source, State, Thread, Variable,
+    ActFault, Asked, Assigned, Debuggee, DebuggeeFault, Evaluation, Explanation, Frame, Happening,
+    How, Placement, RefusedQuery, Scope, Source, State, Thread, Variable,
 };
 use dap_json::Text;
 use dap_recording::Recording;

@@ -1,5 +1,5 @@
 -- The answers to all requests at a disconnect, and to those that are parked at a start.
-use Rattle.std.proofs.Common.{◌≡◌, ℕ, ◌+◌, ◌<◌, ◌≤◌, List, [], ◌∷◌, Bool, true, false, None, refl, sym, ap, ◌∙◌, subst, arith, length, filter, length-append}
+use Rattle.std.proofs.Common.{◌≡◌, ℕ, ◌+◌, ◌<◌, ◌≤◌, List, [], ◌∷◌, ◌++◌, Bool, true, false, None, refl, sym, ap, ◌∙◌, subst, arith, length, filter, length-append}
 use Rattle.std.proofs.lemmas.List.{length-map}
 use Rattle.std.specs.Prelude.{◌==◌, not}
 use Rattle.dap_message.specs.Lengths.{max_fixed}

@@ -6,8 +6,8 @@ use crate::program::{NO_VARIABLE, NO_WAY_BACK, PATH, TEXT};
 use crate::{call, queries};
 use dap_command::SourceKey;
 use dap_debuggee::{
-    ActFault, Asked, Assigned, Debuggee, DebuggeeFault, Evaluation, Explanation, Frame, Happening, How,
-    Placement, RefusedQuery, Scope, Source, State, Thread, Variable,
+    ActFault, Asked, Assigned, Debuggee, DebuggeeFault, Evaluation, Explanation, Frame, Happening,
+    How, Placement, RefusedQuery, Scope, Source, State, Thread, Variable,
 };
 use dap_json::Text;
 use dap_tables::SourceMap;

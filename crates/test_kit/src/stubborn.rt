@@ -5,8 +5,8 @@ ghost use Rattle.test_kit.specs.Stubborn.{is_back, long_value};
 
 use dap_command::SourceKey;
 use dap_debuggee::{
-    ActFault, Asked, Assigned, Debuggee, DebuggeeFault, Evaluation, Explanation, Frame, Happening, How, Placement,
-    RefusedQuery, Scope, Source, Thread, Variable,
+    ActFault, Asked, Assigned, Debuggee, DebuggeeFault, Evaluation, Explanation, Frame, Happening,
+    How, Placement, RefusedQuery, Scope, Source, Thread, Variable,
 };
 use dap_json::Text;
 use dap_replay::Recorded;

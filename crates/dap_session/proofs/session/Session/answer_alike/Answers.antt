@@ -9,7 +9,7 @@ use Rattle.dap_session.proofs.session.Session.answer_alike.Goals as goal
 pub answer_chosen-requires : goal.answer_chosen-requires
 answer_chosen-requires g c =
     room-parked c.self.inside.kept.kept c.args.out.now.numbers.used c.args.out.now.numbers.last c.self.invariant.orderly.distinct
-    (subst (λ (x : SessionState _). c.args.out.now.numbers.used + length (parked_ones x.session.kept) ≤ c.args.out.now.numbers.last) (sym c.self.view_is) c.requires)
+    (subst (λ (x : SessionState _). c.args.out.now.numbers.used + length (parked_ones x.session.kept) ≤ c.args.out.now.numbers.last) (sym c.self.view_is) c.requires.room)
 
 pub returns-clause-writes : goal.returns-clause-writes
 returns-clause-writes g c =

@@ -1,4 +1,10 @@
-use Rattle.std.proofs.Common.{refl}
+use Rattle.std.proofs.Common.{refl, ap, ◌∙◌, subst}
+use Rattle.dap_envelope.specs.ReadBack.{AllReadBack}
+use Rattle.dap_outbox.specs.Draft.{bytes_of}
+use Rattle.dap_outbox.specs.InRange.{AnswersInRange}
+use Rattle.dap_plan.specs.Handling.{after_launch}
+use Rattle.dap_plan.specs.Plan.{written_by}
+use Rattle.dap_plan.specs.Session.{Session}
 use Rattle.dap_session.specs.PrivateReplies.{reply_of}
 use Rattle.dap_session.proofs.session.Session.start.Goals as goal
 
@@ -11,7 +17,7 @@ returns-clause-carries g c =
         after = rw (c.set_phase.ensures, c.in_ok-answer_by_reply.ensures.made.session, c.in_ok-reply.ensures.session, c.start_phase.ensures) refl;
       };
       tells = record {
-        bytes_are = rw (c.in_ok-answer_by_reply.ensures.made.tells.bytes_are, c.in_ok-reply.ensures.session) refl;
-        reads_back = rw c.in_ok-reply.ensures.session at c.in_ok-answer_by_reply.ensures.made.tells.reads_back;
+        bytes_are = c.in_ok-answer_by_reply.ensures.made.tells.bytes_are ∙ ap (λ (x : Session). bytes_of (written_by x (after_launch x c.args.request.now (reply_of c.in_ok-reply.reply)))) c.in_ok-reply.ensures.session;
+        reads_back = subst (λ (x : Session). AnswersInRange (after_launch x c.args.request.now (reply_of c.in_ok-reply.reply)).drafts → AllReadBack x.limits.body (written_by x (after_launch x c.args.request.now (reply_of c.in_ok-reply.reply)))) c.in_ok-reply.ensures.session c.in_ok-answer_by_reply.ensures.made.tells.reads_back;
       };
     }
