@@ -480,9 +480,7 @@ fn offers_line(alloc: Global, name: &str, fault: &OffersFault) -> Result<Vec<u8>
         OffersFault::BadKey(key) => {
             line.extend_from_slice(b": the key ")?;
             line.extend_from_slice(key.as_str().as_bytes())?;
-            line.extend_from_slice(
-                b" of offers is refused: it can't be offered\n",
-            )?;
+            line.extend_from_slice(b" of offers is refused: it can't be offered\n")?;
         }
         OffersFault::TooLarge => {
             line.extend_from_slice(

@@ -169,7 +169,10 @@ fn value_in(alloc: Global, told: &Value) -> Result<Option<Text>, Unread>
 }
 
 /// What is said beside a variable or a value, where something is.
-pub(crate) fn beside_in(alloc: Global, told: &Value) -> Result<Result<Option<More>, HostKey>, AllocError>
+pub(crate) fn beside_in(
+    alloc: Global,
+    told: &Value,
+) -> Result<Result<Option<More>, HostKey>, AllocError>
     ensures { IfOk result (λ said. said ≡ optional_at more_of HostKey.More (view told.now)) }
 {
     let Some(found) = at(told, HostKey::More).found else {
