@@ -144,7 +144,7 @@ beside more other = (refl, refl, refl)
 
 -- stopped, with a value of a text, after this was said
 abbrev at_stop : Bool → Option Coming → LiveState
-at_stop later said = let fresh : LiveState = fresh_live (source ∷ []) in record fresh { state = Stopped; here = shows later; learned = Some (record { text = codes "9"; value = Some (codes "9"); holder = None; more = None; why = None }); mail = record { coming = said; acts = act.Start ∷ []; dropped = Some Told } }
+at_stop later said = let fresh : LiveState = fresh_live (source ∷ []) in record fresh { state = Stopped; here = shows later; learned = Some (record { text = codes "9"; value = Some (codes "9"); holder = None; more = None; why = None }); mail = record { coming = said; ahead = nothing_ahead; acts = act.Start ∷ []; dropped = Some Told } }
 
 abbrev at : State → Option Coming → LiveState
 at state said = let stop : LiveState = at_stop true said in record stop { state = state }

@@ -10,6 +10,7 @@ use crate::dropping::why_dropped;
 use crate::held::{Heard, Learned, Live, LiveLast};
 use crate::here::Here;
 use crate::mail::{Coming, Dropped, HostAct, Mail};
+use crate::placing::copied as copied_placements;
 use dap_command::SourceKey;
 use dap_debuggee::{
     ActFault, Asked, Assigned, Debuggee, DebuggeeFault, Evaluation, Explanation, Frame, Happening,
@@ -687,7 +688,7 @@ impl Debuggee for Live {
         lines: &[u32],
     ) -> Result<Vec<Placement>, DebuggeeFault> {
         match self.mail.placed_at(source, lines) {
-            Some(placed) => Ok(placed.copied(alloc)?),
+            Some(placed) => Ok(copied_placements(alloc, placed.placements.as_slice())?),
             None => Ok(self.sources.verify(alloc, source, lines)?),
         }
     }

@@ -18,6 +18,20 @@ fn is_source(one: &SourceKey, other: &SourceKey) -> bool
     }
 }
 
+/// The same placements.
+pub(crate) fn copied(
+    alloc: Global,
+    placements: &[Placement],
+) -> Result<Vec<Placement>, AllocError>
+    ensures { IfOk result (λ copy. copy.items ≡ placements.now) }
+{
+    let mut copy = Vec::with_capacity(alloc, placements.len())?;
+    for original in placements {
+        copy.push(original.clone()?)?;
+    }
+    Ok(copy)
+}
+
 impl Placed {
     /// Whether it is of just this source and these lines.
     pub(crate) fn is_of(&self, source: &SourceKey, lines: &[u32]) -> bool
@@ -26,16 +40,5 @@ impl Placed {
         is_source(&self.source, source)
             && lines == self.lines.as_slice()
             && self.placements.as_slice().len() == lines.len()
-    }
-
-    /// A breakpoint for each line.
-    pub(crate) fn copied(&self, alloc: Global) -> Result<Vec<Placement>, AllocError>
-        ensures { IfOk result (λ copy. copy.items ≡ self.now.placements) }
-    {
-        let mut copy = Vec::with_capacity(alloc, self.placements.as_slice().len())?;
-        for placement in self.placements.as_slice() {
-            copy.push(placement.clone()?)?;
-        }
-        Ok(copy)
     }
 }

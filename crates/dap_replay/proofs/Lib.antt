@@ -11,3 +11,4 @@ pub mod PlayedExamples
 pub mod PollsExamples
 pub mod Telling
 pub mod Stops
+mod Arrivals
