@@ -11,7 +11,7 @@ ghost use Rattle.dap_adapter.specs.PrivateReceives.{HasReceived, IsBy};
 ghost use Rattle.dap_reader.specs.declared.fault.ReadFault.{ReadFault};
 ghost use Rattle.std.specs.Option.{option_copied};
 ghost use Rattle.dap_tables.specs.References.{target_of};
-ghost use Rattle.dap_tables.specs.SourceMap.{set_of, count};
+ghost use Rattle.dap_tables.specs.SourceMap.{count, set_of};
 ghost use Rattle.dap_plan.specs.Session.{fresh_session, opened_session, offers_fit, oldest, own_requests, to_handle};
 ghost use Rattle.dap_plan.specs.SessionState.{AppendsSome};
 ghost use Rattle.dap_decision.specs.Table.{is_phase};

@@ -5,7 +5,7 @@ ghost use Rattle.std.specs.Option.{option_copied};
 ghost use Rattle.dap_outbox.specs.Outbox.{IsReady};
 ghost use Rattle.dap_tables.specs.Outstanding.{without, with_mark, contains_seq, kept_unparked, unparked_ones, IsOrderlyRequests};
 ghost use Rattle.dap_tables.specs.References.{target_of};
-ghost use Rattle.dap_tables.specs.SourceMap.{set_of, count};
+ghost use Rattle.dap_tables.specs.SourceMap.{count, set_of};
 ghost use Rattle.dap_query.specs.Queries.{object_of};
 ghost use Rattle.dap_plan.specs.Session.{offers_fit, own_requests, numbers_of};
 ghost use Rattle.dap_debuggee.specs.Laws.{is_short};
