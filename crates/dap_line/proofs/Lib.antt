@@ -1,2 +1,3 @@
 mod AddsLemmas
 pub mod GatheredLemmas
+pub mod SaidLemmas
