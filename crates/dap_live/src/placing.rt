@@ -19,10 +19,7 @@ fn is_source(one: &SourceKey, other: &SourceKey) -> bool
 }
 
 /// The same placements.
-pub(crate) fn copied(
-    alloc: Global,
-    placements: &[Placement],
-) -> Result<Vec<Placement>, AllocError>
+pub(crate) fn copied(alloc: Global, placements: &[Placement]) -> Result<Vec<Placement>, AllocError>
     ensures { IfOk result (λ copy. copy.items ≡ placements.now) }
 {
     let mut copy = Vec::with_capacity(alloc, placements.len())?;

@@ -38,9 +38,9 @@ arrived c =
     let same : c.as_slice.result.now ≡ c.args.self.now.recording.moments = c.as_slice.ensures ∙ ap (λ (v : Played). v.recording.moments) c.self-2.view_is in
     let on : (c.args.going.to.held && not c.args.going.paused) ≡ false = elim c.else-to.branch [ else-to-via-then-to+else-not-going w ↦ search rules | else-to-via-else-to w ↦ search rules ] in
     ends_at c.args.self.now (rest_of c.args.going) m c.in_ok-reason.reason c.id_at-thread.result c.in_ok-more.more on
-        (subst (λ (ms : List Moment). at < length ms) same c.in-Some.ensures.lookup.3.0)
-        (subst (λ (ms : List Moment). slice_get ms at ≡ Some m) same here)
-        (c.in_ok-reason.ensures ∙ c.reason_told.ensures) c.id_at-thread.ensures c.in_ok-more.ensures
+    (subst (λ (ms : List Moment). at < length ms) same c.in-Some.ensures.lookup.3.0)
+    (subst (λ (ms : List Moment). slice_get ms at ≡ Some m) same here)
+    (c.in_ok-reason.ensures ∙ c.reason_told.ensures) c.id_at-thread.ensures c.in_ok-more.ensures
 
 pub returns-clause-happened : goal.returns-clause-happened
 returns-clause-happened c =
