@@ -1,6 +1,6 @@
 -- What holds of an open host after a step of its adapter.
 use Rattle.std.proofs.Common.{◌≡◌, ℕ, ◌≤◌, List, [], ◌∷◌, ◌++◌, length, Bool, true, refl, sym, ap, ◌∙◌, subst, Option, Some, None, Result, Ok, Err}
-use Rattle.std.specs.Prelude.{IfErr}
+use Rattle.std.specs.Prelude.{IfErr, IfOk}
 use Rattle.dap_adapter.specs.AdapterState.{AdapterState}
 use Rattle.dap_adapter.specs.Bodies.{IsBetween, BodiesComeOneByOne}
 use Rattle.dap_adapter.specs.Parts.{AnswersPiece, StopsAfter}
@@ -21,12 +21,12 @@ use Rattle.dap_command.specs.declared.offer.Offer.{Offer}
 use Rattle.dap_plan.specs.Session.{Session, opened_session}
 use Rattle.dap_plan.specs.declared.fault.AdapterFault.{AdapterFault}
 use Rattle.dap_host.specs.Fed.{AnswersFed, TellsFed, mail_ahead, over_mail}
-use Rattle.dap_host.specs.Hearing.{HostState, with_ahead, sources_there, IsGoing, SameButAdapter, TakesMessage, AnswersMessage, TellsIt, StopsMessage, StopsTelling, RefusesTold, bad_moment, dropped, IsUnheard, drop_of}
+use Rattle.dap_host.specs.Hearing.{HostState, Comes, with_ahead, sources_there, IsGoing, SameButAdapter, TakesMessage, AnswersMessage, TellsIt, StopsMessage, StopsTelling, RefusesTold, bad_moment, dropped, IsUnheard, drop_of}
 use Rattle.dap_line.specs.Written.{message_lines, act_lines}
 use Rattle.dap_live.specs.declared.mail.Coming.{Coming}
 use Rattle.dap_live.specs.declared.mail.Dropped.{Dropped as Drop}
 use Rattle.dap_live.specs.declared.mail.HostAct.{HostAct}
-use Rattle.dap_line.specs.Moments.{Fails}
+use Rattle.dap_line.specs.Moments.{Fails, IsComing}
 use Rattle.dap_line.specs.Told.{said_of}
 use Rattle.dap_line.specs.declared.refusal.Refusal.TheVariants.{Dropped}
 use Rattle.dap_line.specs.declared.told.Told.{Told}
@@ -166,3 +166,16 @@ unheard_at o h text sources phase t r found e is p d none s fails =
 
 pub dropped_at : (o h : HostState) (text : List ℕ) (phase : Phase) (t : Told) (found : Option Drop) (why : Drop) → o ≡ h → said_of text ≡ Ok (Happened t) → phase ≡ o.adapter.session.phase → found ≡ drop_of phase t → found ≡ Some why → RefusesTold h text (Dropped why)
 dropped_at o h text phase t found why e is p d some = subst (λ (z : HostState). RefusesTold z text (Dropped why)) e (dropped t why is (ap (λ (z : Phase). drop_of z t) (sym p) ∙ (sym d ∙ some)) refl)
+
+-- ---- what a host tells is heard
+
+if_ok : {A E : Type 0} {P Q : A → Type 0} (r : Result A E) → ((x : A) → P x → Q x) → IfOk r P → IfOk r Q
+if_ok (Ok x) f h = f x h
+if_ok (Err e) f h = tt
+
+pub comes_at : (o h : HostState) (text : List ℕ) (sources : List RecordedSource) (phase : Phase) (t : Told) (r : Result Coming Unread) (found : Option Drop) → o ≡ h → said_of text ≡ Ok (Happened t)
+    → phase ≡ o.adapter.session.phase → found ≡ drop_of phase t → found ≡ None → sources ≡ sources_there o → IfOk r (IsComing sources t) → IfOk r (Comes h text)
+comes_at o h text sources phase t r found e is p d none s comes =
+    let kept : drop_of o.adapter.session.phase t ≡ None = ap (λ (z : Phase). drop_of z t) (sym p) ∙ (sym d ∙ none) in
+    subst (λ (z : HostState). IfOk r (Comes z text)) e
+    (if_ok r (λ c g. record { told = t; is = is; in_turn = kept; comes = g }) (subst (λ (z : List RecordedSource). IfOk r (IsComing z t)) s comes))
