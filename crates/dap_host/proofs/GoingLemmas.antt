@@ -23,6 +23,7 @@ use Rattle.dap_plan.specs.declared.fault.AdapterFault.{AdapterFault}
 use Rattle.dap_host.specs.Fed.{AnswersFed, TellsFed, mail_ahead, over_mail}
 use Rattle.dap_host.specs.Hearing.{HostState, Comes, with_ahead, sources_there, IsGoing, SameButAdapter, TakesMessage, AnswersMessage, TellsIt, StopsMessage, StopsTelling, RefusesTold, bad_moment, dropped, IsUnheard, drop_of}
 use Rattle.dap_line.specs.Written.{message_lines, act_lines}
+use Rattle.dap_live.specs.declared.mail.Ahead.{Ahead}
 use Rattle.dap_live.specs.declared.mail.Coming.{Coming}
 use Rattle.dap_live.specs.declared.mail.Dropped.{Dropped as Drop}
 use Rattle.dap_live.specs.declared.mail.HostAct.{HostAct}
@@ -179,3 +180,8 @@ comes_at o h text sources phase t r found e is p d none s comes =
     let kept : drop_of o.adapter.session.phase t ≡ None = ap (λ (z : Phase). drop_of z t) (sym p) ∙ (sym d ∙ none) in
     subst (λ (z : HostState). IfOk r (Comes z text)) e
     (if_ok r (λ c g. record { told = t; is = is; in_turn = kept; comes = g }) (subst (λ (z : List RecordedSource). IfOk r (IsComing z t)) s comes))
+
+-- something is said of the next message
+pub going_ahead : (h k : HostState) (ahead : Ahead) → k ≡ with_ahead ahead h → IsGoing h → IsGoing k
+going_ahead h k ahead is going =
+    subst IsGoing (sym is) (record { used = going.used; history = going.history; stands = going.stands; none_held = going.none_held; limits_are = going.limits_are; fetched = going.fetched })

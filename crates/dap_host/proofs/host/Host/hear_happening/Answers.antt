@@ -1,7 +1,8 @@
-use Rattle.std.proofs.Common.{Ok, subst, ap, ◌∙◌, ◌++◌}
+use Rattle.std.proofs.Common.{Ok, refl, subst, ap, ◌∙◌, ◌++◌}
 use Rattle.std.proofs.lemmas.Result.{on_ok_weaker}
 use Rattle.dap_tables.specs.References.{target_of}
-use Rattle.dap_host.specs.Hearing.{HostState, not_heard, asked, unread}
+use Rattle.dap_host.specs.Hearing.{HostState, with_ahead, ahead_with, not_heard, noted, asked, unread}
+use Rattle.dap_host.proofs.GoingLemmas.{going_ahead}
 use Rattle.dap_line.specs.Told.{said_of, Says}
 use Rattle.dap_line.specs.Written.{refusal_line, target_line}
 use Rattle.dap_line.specs.declared.told.Said.{Said}
@@ -23,3 +24,12 @@ returns-in-Err-Refused-clause-hears c =
     on_ok_weaker c.refuse.result (λ line.
     not_heard _ (unread (subst (λ (z : Unread). Says z (said_of c.args.text.now)) c.in-Err-Refused.field-0-is c.in-Err-Refused.ensures))
     (record { line = rw (← w) line ∙ ap (λ (h : HostState). c.args.out.now.items ++ refusal_line h.number c.in-Err-Refused.why) same; same = same })) c.refuse.ensures.refused
+
+pub returns-in-Ok-OfNext-clause-hears : goal.returns-in-Ok-OfNext-clause-hears
+returns-in-Ok-OfNext-clause-hears c =
+    noted c.in-Ok-OfNext.note (c.in-Ok-OfNext.ensures ∙ ap (λ (z : Said). Ok z) c.in-Ok-OfNext.field-0-is)
+    (record { none = refl; kept = c.keep_note.ensures ∙ ap (λ (h : HostState). with_ahead (ahead_with c.in-Ok-OfNext.note h.ahead) h) c.self.view_is })
+
+pub returns-in-Ok-OfNext-clause-going : goal.returns-in-Ok-OfNext-clause-going
+returns-in-Ok-OfNext-clause-going c =
+    going_ahead c.args.self.now _ _ (c.keep_note.ensures ∙ ap (λ (h : HostState). with_ahead (ahead_with c.in-Ok-OfNext.note h.ahead) h) c.self.view_is) c.requires
