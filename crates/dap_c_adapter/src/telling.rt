@@ -29,15 +29,18 @@ use dap_slot::{handle_of, take_out};
 use std::alloc::Global;
 
 /// Why what was told is dropped, as a code.
-fn mail_code(mail: &mut Mail) -> u32
-    ensures is { result ≡ mail_number mail.old }
+fn mail_code(mut mail: Mail) -> u32
+    ensures is { result ≡ mail_number mail }
     ensures codes { IsToldCode result }
 {
+    let is_left = mail.take_coming().is_some();
+    let dropped = mail.take_dropped();
+    drop(mail);
     // The debuggee was not asked: nothing happens in this phase.
-    if mail.take_coming().is_some() {
+    if is_left {
         return YT_OUT_OF_TURN;
     }
-    match mail.take_dropped() {
+    match dropped {
         None => YT_OK,
         Some(Dropped::OutOfTurn) => YT_OUT_OF_TURN,
         Some(Dropped::OutOfRange) => YT_OUT_OF_RANGE,
@@ -64,12 +67,12 @@ fn tell(alloc: Global, held: &mut HeldAdapter, coming: Coming, found: &mut YtFou
     mail.post(coming);
     let kept = held.adapter.exchange(mail);
     let polled = held.adapter.poll(alloc);
-    let mut mail = held.adapter.exchange(kept);
+    let code = mail_code(held.adapter.exchange(kept));
     match polled {
         Ok(bytes) => {
             held.bytes = bytes;
             *found = only_bytes(held);
-            mail_code(&mut mail)
+            code
         }
         Err(fault) => {
             *found = adapter_fault_found(fault);
