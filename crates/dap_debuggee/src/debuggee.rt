@@ -17,8 +17,8 @@ use std::alloc::{AllocError, Global};
 /// A debugger with what it debugs.
 ///
 /// There are acts, by a `&mut`, which may change what is shown, and queries, by a `&`, which tell it. Each act is counted and
-/// remembered, a refused one too, so keep a number and the last act with its answer, but not why you refused it. After want of memory nothing is said of
-/// the view, but where `assign` says so: a call that is refused memory may leave anything.
+/// remembered, a refused one too, so keep a number and the last act with its answer, but not why you refused it. Once memory
+/// was refused nothing is said of the view, but where `assign` says so: a call that is refused memory may leave anything.
 ///
 /// How a program runs, how far a step goes and at which lines it stops, is yours: no law speaks of it. The laws say when what
 /// may be answered, and what stays the same meanwhile. `docs/OWN_DEBUGGER.md` goes through a small debugger, call by call.
