@@ -27,10 +27,10 @@ sys.path.insert(0, os.path.dirname(os.path.abspath(__file__)))
 
 from debuggee import SIGNALS, Debuggee, Watch, fault_of, load, resume, select  # noqa: E402
 from launch import Launch  # noqa: E402
-from lines import Ended, Lines, line_of, output_lines, said  # noqa: E402
+from lines import Ended, Lines, event_line, line_of, output_lines, said  # noqa: E402
 from points import line_of_point  # noqa: E402
 from sources import Sources  # noqa: E402
-from stops import Stop  # noqa: E402
+from stops import Stop, module_of, thread_numbers  # noqa: E402
 from streams import Fault, Terminal, bodies_of, framed  # noqa: E402
 from texts import clean  # noqa: E402
 from values import FAULTS, as_set, beside, part, settable, shown  # noqa: E402
@@ -67,6 +67,7 @@ class Adapter:
         self.ending, self.kills, self.attaching = None, False, False
         self.wanted = {}  # of each source, what the client wants of a breakpoint, by the line where it is set
         self.asked, self.ids = {}, {}  # of each `setBreakpoints` its source and lines; of these the client's numbers
+        self.threads, self.modules = set(), set()  # of which the client was told that they are there
 
     # The loop, and the end
 
@@ -167,6 +168,9 @@ class Adapter:
     def say(self, happened, **more):
         self.hand_on([said(happened, **more)])
 
+    def tell_event(self, event, **body):
+        self.hand_on([event_line(event, **body)])
+
     def say_output(self, category, text):
         """Says an output; one before the start is said then."""
         if not self.started:
@@ -220,9 +224,37 @@ class Adapter:
             self.found_more = False
             self.sources.find()
         for path, line, place in self.debuggee.points_found():
-            self.say_output("console", "The breakpoint at %s:%d is set, at line %s.\n" % (clean(path), line, place))
+            self.tell_point(path, line, place)
+        self.tell_modules()
+        self.tell_threads()
         self.tell_moment(reason, more)
         self.watch.standing = self.debuggee.pid
+
+    def tell_point(self, path, line, place):
+        """Tells that a breakpoint has its code now, and where."""
+        self.say_output("console", "The breakpoint at %s:%d is set, at line %s.\n" % (clean(path), line, place))
+        for one in self.ids.get((path, line), []):
+            where = {"line": place - 1 + self.first_line} if place else {}
+            self.tell_event("breakpoint", reason="changed", breakpoint={"id": one, "verified": True, **where})
+
+    def tell_modules(self):
+        for module in map(module_of, gdb.objfiles()):
+            if module and module["id"] not in self.modules:
+                self.modules.add(module["id"])
+                self.tell_event("module", reason="new", module=module)
+
+    def tell_threads(self):
+        """Tells which threads have come and gone since the stop before."""
+        here = thread_numbers()
+        for reason, numbers in ("exited", self.threads - here), ("started", here - self.threads):
+            for number in sorted(numbers):
+                self.tell_event("thread", reason=reason, threadId=number)
+        self.threads = here
+
+    def tell_process(self, method):
+        name = gdb.current_progspace().filename
+        if name and self.debuggee.pid:
+            self.tell_event("process", name=clean(name), systemProcessId=self.debuggee.pid, isLocalProcess=True, startMethod=method)
 
     def tell_moment(self, reason, more):
         self.running, self.reason, self.here = False, (reason, more), Stop(self.sources)
@@ -288,6 +320,8 @@ class Adapter:
         if fault:
             self.say_output("stderr", fault)
             self.tell_exit(NOT_STARTED)
+        else:
+            self.tell_process("attach" if launch.attaches else "launch")
 
     def run(self, launch):
         self.entry = launch.stops

@@ -64,6 +64,11 @@ def said(happened, **more):
     return line_of(happened=happened, **more)
 
 
+def event_line(event, **body):
+    """The line that tells the client an event by its name."""
+    return line_of(event=event, body=body)
+
+
 def output_lines(category, text):
     """The lines that say an output, in groups that may be written at once."""
     group, size = [], 0

@@ -20,6 +20,17 @@ def name_of(frame, has_source):
     return clean("%s (%s)" % (name, os.path.basename(library)) if library else name)
 
 
+def thread_numbers():
+    """The numbers of the program's threads."""
+    return {thread.num for thread in gdb.selected_inferior().threads()}
+
+
+def module_of(objfile):
+    """What the protocol tells of a file of code; nothing of one that has no name."""
+    path = objfile.is_valid() and objfile.filename
+    return {"id": clean(path), "name": clean(os.path.basename(path)), "path": clean(path)} if path else None
+
+
 class Stop:
     """A stop of the program. What is in a scope or a value is looked up once it is asked for."""
 

@@ -1,5 +1,6 @@
 /* The adapter's end over a debuggee that this program feeds: a session with breakpoints, a stop, variables that are told later,
- * a value that is set, an exit; what a host says out of turn; and each allocation refused in turn, as in refused.c. */
+ * a value that is set, an exit, events by their names; one with breakpoints that move, a start that is refused, and long output; what a host says out
+ * of turn; and each allocation refused in turn, as in refused.c. */
 #include "refusing.h"
 
 static const char BASE[] = "{\"sources\":[{\"name\":\"a.c\",\"path\":\"/w/a.c\",\"text\":\"1\\n2\\n3\\n4\\n\"}]}";
@@ -28,8 +29,8 @@ static void write_out(void) {
     written[at + found.bytes] = 0;
 }
 
-/* Takes a request, and handles all that wait. */
-static int hear(const char *body) {
+/* Takes a request. */
+static int take_in(const char *body) {
     uint8_t frame[512];
     int size = snprintf((char *)frame, sizeof frame, "Content-Length: %zu\r\n\r\n%s", strlen(body), body);
     uint32_t code = yt_adapter_take(&adapter, frame, (size_t)size, &found);
@@ -40,14 +41,22 @@ static int hear(const char *body) {
     CHECK(yt_adapter_frame(&adapter, back, sizeof back) == YT_OK && !memcmp(back, frame, (size_t)size));
     written[0] = 0;
     write_out();
+    return 1;
+}
+
+/* Handles all that wait. */
+static int handle(void) {
     for (;;) {
-        code = yt_adapter_turn(&adapter, &found);
+        uint32_t code = yt_adapter_turn(&adapter, &found);
         if (code == YT_IDLE) return 1;
         if (!goes_on(code)) return 0;
         CHECK(code == YT_OK);
+        if (code != YT_OK) return 0;
         write_out();
     }
 }
+
+static int hear(const char *body) { return take_in(body) && handle(); }
 
 static int has(const char *text) { return strstr(written, text) != NULL; }
 
@@ -148,7 +157,129 @@ static int goes(void) {
     return hear("{\"seq\":12,\"type\":\"request\",\"command\":\"disconnect\"}");
 }
 
-static void scenario(void) {
+/* Says something of what is asked next. Where memory is refused nothing has changed, and the next try goes through. */
+static uint32_t ahead(const char *said) {
+    uint32_t code = yt_adapter_ahead(&adapter, BYTES(said));
+    return goes_on(code) ? code : yt_adapter_ahead(&adapter, BYTES(said));
+}
+
+#define LINES(seq) "{\"seq\":" seq ",\"type\":\"request\",\"command\":\"setBreakpoints\",\"arguments\":{\"source\":{\"path\":\"/w/a.c\"},\"breakpoints\":[{\"line\":3},{\"line\":9}]}}"
+
+/* The host has to set breakpoints at the lines that were asked for, wherever they are. */
+static void sets_lines(void) {
+    yt_act act;
+    uint32_t lines[2];
+    CHECK(yt_adapter_act(&adapter, &act) == YT_OK && act.kind == 4 && act.lines == 2);
+    CHECK(yt_adapter_lines(&adapter, lines, 2) == YT_OK && lines[0] == 3 && lines[1] == 9);
+    CHECK(yt_adapter_act(&adapter, &act) == YT_NOTHING);
+}
+
+static int moves(void) {
+    if (!hear("{\"seq\":1,\"type\":\"request\",\"command\":\"initialize\",\"arguments\":{\"adapterID\":\"x\"}}")) return 0;
+    if (!take_in(LINES("2"))) return 0;
+    CHECK(ahead("{\"placed\":{\"path\":\"/w/a.c\"},\"breakpoints\":[{\"asked\":3,\"line\":4},{\"asked\":9,\"line\":2,\"verified\":false,\"message\":\"No code here.\"}]}") == YT_OK);
+    if (!handle()) return 0;
+    CHECK(has("\"line\":4,\"verified\":true}") && has("\"line\":2,\"message\":\"No code here.\",\"verified\":false}"));
+    sets_lines();
+    if (!take_in(LINES("3"))) return 0;
+    /* these say neither, so that what was said before counts */
+    CHECK(ahead("{") == YT_BAD_ARGUMENTS && ahead("{\"happened\":\"exited\",\"code\":0}") == YT_BAD_ARGUMENTS);
+    if (!handle()) return 0;
+    CHECK(has("\"line\":4,\"verified\":true}") && has("\"line\":2,\"message\":\"No code here.\",\"verified\":false}"));
+    sets_lines();
+    if (!take_in(LINES("4"))) return 0;
+    CHECK(ahead("") == YT_OK);
+    if (!handle()) return 0;
+    CHECK(has("\"line\":3,\"verified\":true}") && has("\"line\":9,\"verified\":false}") && !has("\"message\""));
+    sets_lines();
+    return 1;
+}
+
+static int refuses_to_start(void) {
+    static const char words[] = "\"format\":\"{why}\",\"id\":1013,\"showUser\":true,\"variables\":{\"why\":\"No such program.\"}";
+    yt_act act;
+    if (!hear("{\"seq\":5,\"type\":\"request\",\"command\":\"launch\",\"arguments\":{}}")) return 0;
+    if (!take_in("{\"seq\":6,\"type\":\"request\",\"command\":\"configurationDone\"}")) return 0;
+    CHECK(ahead("{\"refuses\":\"Not this.\"}") == YT_OK && ahead("{\"refuses\":\"No such program.\",\"showUser\":true}") == YT_OK);
+    CHECK(ahead("{\"refuses\":7}") == YT_BAD_ARGUMENTS && ahead("{\"asked\":\"target\",\"number\":1}") == YT_BAD_ARGUMENTS);
+    if (!handle()) return 0;
+    CHECK(has(words) && has("\"command\":\"launch\",\"message\":\"debuggee\"") && yt_adapter_act(&adapter, &act) == YT_NOTHING);
+    if (!hear("{\"seq\":7,\"type\":\"request\",\"command\":\"launch\",\"arguments\":{}}")) return 0;
+    CHECK(has(words) && yt_adapter_act(&adapter, &act) == YT_NOTHING); /* it counts until something else is said */
+    if (!take_in("{\"seq\":8,\"type\":\"request\",\"command\":\"launch\",\"arguments\":{}}")) return 0;
+    CHECK(ahead("") == YT_OK);
+    if (!handle()) return 0;
+    CHECK(has("\"command\":\"launch\",\"request_seq\":8,") && has("\"success\":true"));
+    CHECK(yt_adapter_act(&adapter, &act) == YT_OK && act.kind == 1 && yt_adapter_act(&adapter, &act) == YT_NOTHING);
+    return 1;
+}
+
+/* Output of 300 bytes: a character of three begins at byte 127, counted from 0, so that the first event has one byte less. */
+static int says_much(void) {
+    char text[301], heard[301];
+    size_t size = sizeof text - 1, at = 0, came = 0, length = 0;
+    memset(text, 'x', size);
+    memcpy(text + 127, "\xe2\x82\xac", 3);
+    text[size] = 0;
+    for (int events = 0; at < size; at += length, events++) {
+        CHECK(yt_output_piece((const uint8_t *)text + at, size - at, &length) == YT_OK);
+        CHECK(length == (events == 0 ? 127 : events == 1 ? 128 : 45));
+        if (length == 0 || length > size - at) return 0;
+        if (!told(yt_adapter_output(&adapter, 1, (const uint8_t *)text + at, length, &found))) return 0;
+        const char *output = strstr(written, "\"output\":\""), *end = output ? strchr(output + 10, '"') : NULL;
+        CHECK(end && end - (output + 10) == (long)length);
+        if (!end || end - (output + 10) != (long)length) return 0;
+        memcpy(heard + came, output + 10, length);
+        came += length;
+    }
+    CHECK(came == size && !memcmp(heard, text, size));
+    return 1;
+}
+
+static int names(void) {
+    if (!told(yt_adapter_output_named(&adapter, BYTES("stdout"), BYTES("a"), BYTES("{\"group\":\"start\"}"), &found))) return 0;
+    CHECK(has("\"category\":\"stdout\"") && has("\"output\":\"a\"") && has("\"group\":\"start\""));
+    if (!told(yt_adapter_output_named(&adapter, BYTES("my build"), BYTES("b"), BYTES(""), &found))) return 0;
+    CHECK(has("\"category\":\"my build\"") && has("\"output\":\"b\"") && !has("\"group\""));
+    static char name[66];
+    memset(name, 'n', 65);
+    if (!told(yt_adapter_output_named(&adapter, BYTES(name + 1), BYTES("c"), BYTES(""), &found))) return 0;
+    CHECK(has(name + 1) && has("\"output\":\"c\""));
+    uint32_t code = yt_adapter_output_named(&adapter, BYTES(name), BYTES("c"), BYTES(""), &found);
+    if (!goes_on(code)) return 0;
+    CHECK(code == YT_OUT_OF_RANGE && found.bytes == 0);
+    code = yt_adapter_output_named(&adapter, BYTES("my \"build\""), BYTES("d"), BYTES(""), &found);
+    if (!goes_on(code)) return 0;
+    CHECK(code == YT_OUT_OF_RANGE && found.bytes == 0);
+    return 1;
+}
+
+/* Tells an event by its name. One that is refused memory has changed nothing, and is told once more. */
+static uint32_t emit(const char *event, const char *body) {
+    uint32_t code = yt_adapter_emit(&adapter, BYTES(event), BYTES(body), &found);
+    if (code == YT_NO_MEMORY) {
+        CHECK(met > 0 && found.bytes == 0);
+        code = yt_adapter_emit(&adapter, BYTES(event), BYTES(body), &found);
+    }
+    written[0] = 0;
+    write_out();
+    return code;
+}
+
+static int emits(void) {
+    static const char *reserved[] = {"initialized", "stopped", "continued", "exited", "terminated", "capabilities"};
+    static const char *bad[] = {"null", "0.5", "{", "{} {}", "[1e0]", "\xff"};
+    CHECK(emit("module", "{\"reason\":\"new\",\"module\":{\"id\":1,\"name\":\"libc\"}}") == YT_OK);
+    CHECK(has("{\"body\":{\"module\":{\"id\":1,\"name\":\"libc\"},\"reason\":\"new\"},\"event\":\"module\",\"seq\":"));
+    CHECK(emit("mine", "") == YT_OK && has("{\"event\":\"mine\",\"seq\":"));
+    CHECK(emit("", "7") == YT_OK && has("{\"body\":7,\"event\":\"\",\"seq\":"));
+    for (size_t n = 0; n < sizeof reserved / sizeof *reserved; n++) CHECK(emit(reserved[n], "") == YT_RESERVED && !written[0]);
+    for (size_t n = 0; n < sizeof bad / sizeof *bad; n++) CHECK(emit("module", bad[n]) == YT_BAD_ARGUMENTS && !written[0]);
+    CHECK(emit("\xff", "") == YT_BAD_ARGUMENTS && !written[0]);
+    return 1;
+}
+
+static void open_adapter(void) {
     yt_limits limits;
     yt_limits_usual(&limits);
     uint32_t code = yt_adapter_open(&adapter, &limits, BYTES(BASE));
@@ -157,8 +288,37 @@ static void scenario(void) {
         code = yt_adapter_open(&adapter, &limits, BYTES(BASE));
     }
     CHECK(code == YT_OK);
-    if (starts() && stops()) goes();
+}
+
+static void first_session(void) {
+    open_adapter();
+    if (starts() && emits() && stops()) goes();
     yt_adapter_free(&adapter);
+}
+
+static void second_session(void) {
+    open_adapter();
+    if (moves() && refuses_to_start() && says_much()) names();
+    yt_adapter_free(&adapter);
+}
+
+/* How much of output can be told at once. */
+static void pieces(void) {
+    static const char bad[][4] = {"\xff", "x\x80", "\xe2\x82", "\xc0\x80"};
+    static uint8_t much[130];
+    size_t length = 77;
+    for (size_t n = 0; n < sizeof bad / sizeof *bad; n++) CHECK(yt_output_piece(BYTES(bad[n]), &length) == YT_BAD_ARGUMENTS && length == 77);
+    CHECK(yt_output_piece(BYTES(""), &length) == YT_OK && length == 0);
+    memset(much, 'x', sizeof much);
+    CHECK(yt_output_piece(much, 1, &length) == YT_OK && length == 1);
+    CHECK(yt_output_piece(much, 128, &length) == YT_OK && length == 128);
+    CHECK(yt_output_piece(much, 130, &length) == YT_OK && length == 128);
+    memcpy(much + 125, "\xf0\x9f\x90\x8d", 4); /* the four bytes 125 to 128 */
+    CHECK(yt_output_piece(much, 130, &length) == YT_OK && length == 125);
+    memcpy(much + 124, "\xf0\x9f\x90\x8dx", 5);
+    CHECK(yt_output_piece(much, 130, &length) == YT_OK && length == 128);
+    much[129] = 0xff;
+    CHECK(yt_output_piece(much, 130, &length) == YT_BAD_ARGUMENTS && length == 128);
 }
 
 static void nothing_is_held(void) {
@@ -179,6 +339,9 @@ static void nothing_is_held(void) {
     CHECK(yt_adapter_learned(&adapter, BYTES("x"), true, BYTES("y"), false, 0, &found) == YT_NONE);
     CHECK(yt_adapter_learned_with(&adapter, BYTES("x"), true, BYTES("y"), false, 0, BYTES("{}"), &found) == YT_NONE);
     CHECK(yt_adapter_no_value(&adapter, BYTES("x"), BYTES("y"), false, &found) == YT_NONE);
+    CHECK(yt_adapter_output_named(&adapter, BYTES("stdout"), BYTES("x"), BYTES(""), &found) == YT_NONE);
+    CHECK(yt_adapter_ahead(&adapter, BYTES("{\"refuses\":\"x\"}")) == YT_NONE && yt_adapter_ahead(&adapter, BYTES("")) == YT_NONE);
+    CHECK(yt_adapter_emit(&adapter, BYTES("module"), BYTES(""), &found) == YT_NONE);
     CHECK(yt_adapter_variable_with(&adapter, BYTES("x"), BYTES("y"), false, 0, BYTES("{}")) == YT_NONE);
     CHECK(yt_adapter_variable(&adapter, BYTES("x"), BYTES("y"), false, 0) == YT_NONE && yt_adapter_variables(&adapter, 1, &found) == YT_NONE);
     CHECK(yt_adapter_sources(&adapter, BYTES(BASE), &found) == YT_NONE && yt_adapter_act(&adapter, &act) == YT_NONE);
@@ -199,6 +362,11 @@ static void nothing_is_held(void) {
     CHECK(yt_adapter_output_with(&adapter, 5, BYTES("x"), BYTES("{}"), &found) == YT_BAD_ARGUMENTS);
     CHECK(yt_adapter_output_with(&adapter, 3, BYTES("x"), BYTES("{\"a\":0.5}"), &found) == YT_BAD_ARGUMENTS);
     CHECK(yt_adapter_output_with(&adapter, 3, BYTES("x"), NULL, 0, &found) == YT_OUT_OF_TURN);
+    CHECK(yt_adapter_emit(&adapter, BYTES("module"), BYTES(""), &found) == YT_WRONG_PHASE && found.bytes == 0);
+    CHECK(yt_adapter_output_named(&adapter, BYTES("\xff"), BYTES("x"), BYTES(""), &found) == YT_BAD_ARGUMENTS);
+    CHECK(yt_adapter_output_named(&adapter, BYTES("stdout"), BYTES("\xff"), BYTES(""), &found) == YT_BAD_ARGUMENTS);
+    CHECK(yt_adapter_output_named(&adapter, BYTES("stdout"), BYTES("x"), BYTES("[]"), &found) == YT_BAD_ARGUMENTS);
+    CHECK(yt_adapter_output_named(&adapter, BYTES("a\nb"), BYTES("x"), BYTES(""), &found) == YT_OUT_OF_TURN); /* that is seen first */
     CHECK(yt_adapter_stopped_with(&adapter, BYTES("x"), 1, BYTES(SHOWS), false, BYTES("7"), &found) == YT_BAD_ARGUMENTS);
     CHECK(yt_adapter_stopped(&adapter, BYTES("x"), 1, BYTES("[]"), false, &found) == YT_BAD_RECORDING);
     CHECK(yt_adapter_variable_with(&adapter, BYTES("x"), BYTES("y"), false, 0, BYTES("[]")) == YT_BAD_ARGUMENTS);
@@ -206,6 +374,10 @@ static void nothing_is_held(void) {
     CHECK(yt_adapter_learned_with(&adapter, BYTES("x"), true, BYTES("y"), false, 0, BYTES("{"), &found) == YT_BAD_ARGUMENTS);
     CHECK(yt_adapter_no_value(&adapter, BYTES("x"), BYTES("\xff"), false, &found) == YT_BAD_ARGUMENTS);
     CHECK(yt_adapter_variable_with(&adapter, BYTES("x"), BYTES("y"), false, 0, NULL, 0) == YT_OK);
+    CHECK(yt_adapter_ahead(&adapter, BYTES("\xff")) == YT_BAD_ARGUMENTS && yt_adapter_ahead(&adapter, BYTES("[]")) == YT_BAD_ARGUMENTS);
+    CHECK(yt_adapter_ahead(&adapter, BYTES("{}")) == YT_BAD_ARGUMENTS && yt_adapter_ahead(&adapter, BYTES("{\"refuses\":null}")) == YT_BAD_ARGUMENTS);
+    CHECK(yt_adapter_ahead(&adapter, BYTES("{\"placed\":{\"path\":\"/w/a.c\"}}")) == YT_BAD_ARGUMENTS);
+    CHECK(yt_adapter_ahead(&adapter, BYTES("{\"placed\":{\"sourceReference\":1},\"breakpoints\":[]}")) == YT_OK);
     CHECK(yt_adapter_take(&adapter, BYTES("Content-Length: 2\r\n\r\n[]"), &found) == YT_BODY && found.at == 0 && found.cause == 2);
     CHECK(yt_adapter_turn(&adapter, &found) == YT_BODY && yt_adapter_continued(&adapter, 1, &found) == YT_BODY);
     yt_adapter_free(&adapter);
@@ -213,14 +385,8 @@ static void nothing_is_held(void) {
 
 int main(void) {
     nothing_is_held();
-    for (long n = 1;; n++) {
-        long before = met;
-        countdown = n;
-        scenario();
-        CHECK(live == 0);
-        if (met == before) break;
-    }
-    countdown = 0;
-    printf("adapter: %ld refusals\n", met);
+    pieces();
+    refuse_each("first session", first_session);
+    refuse_each("second session", second_session);
     return wrong != 0;
 }

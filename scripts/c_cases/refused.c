@@ -111,19 +111,6 @@ static void client_scenario(void) {
     yt_client_free(&client);
 }
 
-static void refuse_each(const char *name, void (*scenario)(void)) {
-    long from = met;
-    for (long n = 1;; n++) {
-        long before = met;
-        countdown = n;
-        scenario();
-        CHECK(live == 0);
-        if (met == before) break;
-    }
-    countdown = 0;
-    printf("%s: %ld refusals\n", name, met - from);
-}
-
 int main(void) {
     refuse_each("frames", frames_scenario);
     refuse_each("texts", texts_scenario);

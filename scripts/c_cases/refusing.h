@@ -32,3 +32,17 @@ void __wrap_free(void *block) {
 
 #define CHECK(what) ((what) ? (void)0 : (void)(wrong++, printf("line %d, after %ld refusals: %s\n", __LINE__, met, #what)))
 #define BYTES(text) (const uint8_t *)(text), strlen(text)
+
+/* Runs a scenario with its first allocation refused, then with its second, until it meets none. It leaks nothing. */
+static void refuse_each(const char *name, void (*scenario)(void)) {
+    long from = met;
+    for (long n = 1;; n++) {
+        long before = met;
+        countdown = n;
+        scenario();
+        CHECK(live == 0);
+        if (met == before) break;
+    }
+    countdown = 0;
+    printf("%s: %ld refusals\n", name, met - from);
+}

@@ -1,5 +1,5 @@
 -- An adapter goes on as its session does.
-use Rattle.std.proofs.Common.{◌≡◌, ℕ, ◌≤◌, List, [], ◌++◌, Option, Some, None, refl, sym, ap, ◌∙◌, subst, arith}
+use Rattle.std.proofs.Common.{◌≡◌, ℕ, ◌≤◌, List, [], ◌++◌, Bool, Option, Some, None, Result, Ok, Err, OnOk, refl, sym, ap, ◌∙◌, subst, arith}
 use Rattle.std.proofs.lemmas.List.{append-nil}
 use Rattle.dap_frame.specs.Intake.{Intake}
 use Rattle.dap_frame.specs.Settings.{Settings, bounds_of}
@@ -16,10 +16,13 @@ use Rattle.dap_plan.specs.Follows.{Follows}
 use Rattle.dap_plan.specs.Laws.{CanMake, can_make, EachStepGoesOn}
 use Rattle.dap_plan.specs.Plan.{Made, Plan, entries_of}
 use Rattle.dap_plan.specs.Polling.{polls}
-use Rattle.dap_plan.specs.SessionState.{SessionState, Carries, HasTurned}
+use Rattle.dap_plan.specs.Emitting.{emit_faults, emits, first_emit_fault}
+use Rattle.serde_json.specs.Data.{Data}
+use Rattle.std.specs.Prelude.{is_some}
+use Rattle.dap_plan.specs.SessionState.{SessionState, AppendsSome, Carries, HasTurned}
 use Rattle.dap_plan.specs.Session.{Session, IsOrderly, opened_session}
 use Rattle.dap_plan.specs.Within.{IsWithin, EachStepStaysWithin}
-use Rattle.dap_adapter.specs.Calls.{Step, Handled, Saw}
+use Rattle.dap_adapter.specs.Calls.{Step, Handled, Saw, Emits}
 use Rattle.dap_adapter.specs.AdapterState.{AdapterState, state_of}
 use Rattle.dap_adapter.specs.StandsFor.{GoesOn}
 use Rattle.dap_adapter.proofs.Readable.{step-reads}
@@ -105,3 +108,38 @@ sees grow ranges laws within follows old new bytes from to a b i fault limits c 
           (λ made can is in_range. within.poll old.session made in_range can (subst (λ (x : Session). x.used ≤ old.session.limits.seq) is w));
       within = w;
     }
+
+-- an event that is told by its name
+is-open : (fault : Option AdapterFault) (name : List ℕ) (body : Option Data) (s : Session) → first_emit_fault emit_faults name body (is_some fault) s ≡ None → fault ≡ None
+is-open None name body s e = refl
+is-open (Some f) name body s e = absurd (cc e)
+
+pub emits-event : {D : Type 0} (grow : HistoriesGrow) (ranges : ReadIsInRange) (laws : EachStepGoesOn) (within : EachStepStaysWithin) (follows : Goes D) (name : List ℕ) (body : Option Data) (old new : AdapterState D) (bytes : List ℕ) (from to : SessionState D)
+    → from ≡ state_of old → to ≡ state_of new → new.intake ≡ old.intake
+    → new.fault ≡ old.fault → new.session.limits ≡ old.session.limits
+    → first_emit_fault emit_faults name body (is_some old.fault) old.session ≡ None
+    → Carries follows (emits name body from.session) from to bytes → new.session.used ≤ old.session.limits.seq → Emits follows name body old bytes new
+emits-event grow ranges laws within follows name body old new bytes from to a b i fault limits free c w =
+    record {
+      free = free;
+      intake = i;
+      fault = fault;
+      debuggee = rw (a, b) at c.step.carried.1;
+      limits = limits;
+      step = stepped grow ranges laws follows (emits name body old.session) old new bytes from to a b i (fault ∙ is-open old.fault name body old.session free) limits (subst (λ (x : SessionState _). Carries follows (emits name body x.session) from to bytes) a c)
+          (λ made h can in_range f. laws.emit name body old.session made h can f)
+          (λ made can is in_range. within.emit name body old.session made in_range can (subst (λ (x : Session). x.used ≤ old.session.limits.seq) is w));
+      within = w;
+    }
+
+-- the same of a call that appends it
+pub emits-all : {D T E : Type 0} (grow : HistoriesGrow) (ranges : ReadIsInRange) (laws : EachStepGoesOn) (within : EachStepStaysWithin) (follows : Goes D) (name : List ℕ) (body : Option Data) (old new : AdapterState D) (from to : SessionState D) (r : Result T E) (closed : Bool) (before after : List ℕ)
+    → closed ≡ is_some old.fault → from ≡ state_of old → to ≡ state_of new → new.intake ≡ old.intake → new.fault ≡ old.fault → new.session.limits ≡ old.session.limits
+    → OnOk r (first_emit_fault emit_faults name body closed from.session ≡ None) → OnOk r (AppendsSome (λ bytes. Carries follows (emits name body from.session) from to bytes) before after) → OnOk r (to.session.used ≤ from.session.limits.seq)
+    → OnOk r (AppendsSome (λ bytes. Emits follows name body old bytes new) before after)
+emits-all grow ranges laws within follows name body old new from to (Ok x) closed before after c a b i fault limits free there w =
+    let none : first_emit_fault emit_faults name body closed old.session ≡ None = rw a at free in
+    let open_so : first_emit_fault emit_faults name body (is_some old.fault) old.session ≡ None = subst (λ (k : Bool). first_emit_fault emit_faults name body k old.session ≡ None) c none in
+    let used : new.session.used ≤ old.session.limits.seq = rw (a, b) at w in
+    record { bytes = there.bytes; items = there.items; holds = emits-event grow ranges laws within follows name body old new there.bytes from to a b i fault limits open_so there.holds used }
+emits-all grow ranges laws within follows name body old new from to (Err e) closed before after c a b i fault limits free there w = tt

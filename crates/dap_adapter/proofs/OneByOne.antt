@@ -1,5 +1,5 @@
 -- An adapter between two messages: what was used is whole frames, and the frame of a body makes one more.
-use Rattle.std.proofs.Common.{◌≡◌, ◌≤◌, ℕ, List, [], ◌∷◌, ◌++◌, length, Bool, false, append-nil, refl, sym, ap, ◌∙◌, subst}
+use Rattle.std.proofs.Common.{◌≡◌, ◌≤◌, ℕ, List, [], ◌∷◌, ◌++◌, length, Bool, Option, false, append-nil, refl, sym, ap, ◌∙◌, subst}
 use Rattle.dap_debuggee.specs.Shown.{Shown}
 use Rattle.dap_envelope.specs.declared.message.Message.{Message}
 use Rattle.dap_frame.specs.Laws.{EachStreamHasOneSplit, WrittenIsReadAgain, FrameHasNoFrameWithin}
@@ -10,7 +10,10 @@ use Rattle.dap_frame.specs.declared.limits.Bounds.{Bounds}
 use Rattle.dap_plan.specs.Carried.{Goes}
 use Rattle.dap_plan.specs.SessionState.{SessionState}
 use Rattle.dap_adapter.specs.AdapterState.{AdapterState, state_of}
-use Rattle.dap_adapter.specs.Calls.{Exchanges}
+use Rattle.dap_adapter.specs.Calls.{Emits, Exchanges}
+use Rattle.dap_frame.specs.Intake.{Intake}
+use Rattle.dap_plan.specs.Plan.{entries_of}
+use Rattle.serde_json.specs.Data.{Data}
 use Rattle.dap_adapter.specs.Bodies.{IsBetween, BodiesComeOneByOne}
 use Rattle.dap_adapter.specs.Parts.{StandsThere, RunsOn, AnswersPiece, PollsOn}
 use Rattle.dap_adapter.specs.PrivateStreams.{StreamLaws}
@@ -55,6 +58,19 @@ module _ {D : Type 0} (shown : D → Shown) (follows : Goes D) (one : EachStream
 
   pub told_between : (a : AdapterState D) (before after : List ℕ) → PollsOn shown follows e before a after → IsBetween a
   told_between a before after polls = between a (to_poll 0) to_take [] polls.outs polls.runs_on (none_used a (to_poll 0) to_take [] polls.outs polls.runs_on refl)
+
+  pub emitted_between : (a : AdapterState D) (name : List ℕ) (body : Option Data) (bytes : List ℕ) → Emits follows name body e bytes a → IsBetween a
+  emitted_between a name body bytes emits =
+      let history = at.history ++ ([] ++ entries_of e.session.used emits.step.session.made) in
+      let stands : StandsFor a at.used history = subst (λ (z : List ℕ). StandsFor a z history) (append-nil at.used) (emits.step.goes_on at.used at.history at.stands) in
+      let same : a.intake.bounds ≡ bounds = ap (λ (i : Intake). i.bounds) emits.intake ∙ at.stands.bounds in
+      let split = subst (λ (b : Bounds). Split b at.used stands.received.bodies stands.received.rest) same stands.received.stream.split in
+      record {
+        used = at.used;
+        history = history;
+        stands = stands;
+        none_held = (one.one bounds at.used stands.received.bodies at.stands.received.bodies stands.received.rest [] split so_far).1;
+      }
 
   module _ (laws : StreamLaws bounds) (body : List ℕ) (fits : length body ≤ e.session.limits.body) (going : has_ended e.session ≡ false) (a : AdapterState D) (before after : List ℕ) (ended : Bool) (answers : AnswersPiece shown follows e (frame_of body) before a after ended) where
     abbrev rest_there : List ℕ
@@ -104,5 +120,6 @@ one_by_one shown follows written one within = record {
   fresh = λ e range stands. fresh_between e (stream_laws e.session.limits range written one within) stands;
   answered = λ old new body before after ended at range fits going a. body_taken shown follows one old at (stream_laws old.session.limits range written one within) body fits going new before after ended a;
   told = λ old new before after at polls. told_between shown follows one old at new before after polls;
+  emitted = λ old new name body bytes at e. emitted_between shown follows one old at new name body bytes e;
   exchanged = λ old new at e. exchanged_between shown old new at e;
 }

@@ -13,13 +13,14 @@ use Rattle.dap_envelope.specs.declared.message.Message.{Message}
 use Rattle.dap_debuggee.specs.Shown.{Shown}
 use Rattle.dap_plan.specs.Carried.{Goes}
 use Rattle.dap_plan.specs.Handling.{turns}
-use Rattle.dap_plan.specs.Plan.{written_by}
+use Rattle.dap_plan.specs.Plan.{written_by, entries_of}
 use Rattle.dap_outbox.specs.Draft.{bytes_of}
 use Rattle.dap_plan.specs.Session.{Session}
 use Rattle.dap_plan.specs.SessionState.{SessionState}
 use Rattle.dap_adapter.specs.PrivateServing.{next_if}
-use Rattle.dap_adapter.specs.Parts.{MayBeHeld, RunsOn, PartsJoin, InTurn, none_made, answered, told as told_since, exchanged, StandsInTurn, CallsInTurnAddUp}
-use Rattle.dap_adapter.specs.Calls.{Handled, Saw, Delivers, Waits, Takes, Exchanges}
+use Rattle.dap_adapter.specs.Parts.{MayBeHeld, RunsOn, PartsJoin, InTurn, none_made, answered, told as told_since, emitted, exchanged, StandsInTurn, CallsInTurnAddUp}
+use Rattle.dap_adapter.specs.Calls.{Handled, Saw, Delivers, Waits, Takes, Exchanges, Emits}
+use Rattle.serde_json.specs.Data.{Data}
 use Rattle.dap_adapter.specs.AdapterState.{AdapterState, state_of}
 use Rattle.dap_adapter.specs.StandsFor.{StandsFor}
 use Rattle.dap_adapter.specs.Run.{Next, to_take, to_turn, to_poll, has_ended, after_poll, Run, begins, handles as one_handled, idles, sees, delivers}
@@ -258,6 +259,22 @@ module _ {D : Type 0} (shown : D → Shown) (follows : Goes D) where
     pub stands : StandsInTurn old new s h outs
     pub limits : new.session.limits ≡ old.session.limits
 
+  emitted_more : (old m n : AdapterState D) (s : List ℕ) (h : List Entry) (outs : List Message) (name : List ℕ) (body : Option Data) (bytes : List ℕ) → InTurnLimits old m s h outs → (e : Emits follows name body m bytes n) → InTurnLimits old n s h (outs ++ written_by m.session e.step.session.made)
+  emitted_more old m n s h outs name body bytes x e =
+      let nows : List Message = written_by m.session e.step.session.made in
+      let entries : List Entry = [] ++ entries_of m.session.used e.step.session.made in
+      let was = x.stands in
+      let stands = subst (λ (z : List ℕ). StandsFor n z ((h ++ was.more) ++ entries)) (append-nil s) (e.step.goes_on s (h ++ was.more) was.stands) in
+      record {
+        stands = record {
+          more = was.more ++ entries;
+          stands = subst (λ (z : List Entry). StandsFor n s z) (append_assoc h was.more entries) stands;
+          went = ap outs_of (sym (append_assoc h was.more entries)) ∙ (e.step.went (h ++ was.more) ∙ (ap (λ (ms : List Message). ms ++ nows) was.went ∙ append_assoc (outs_of h) outs nows));
+          reads_back = all_append (ReadsBack old.session.limits.body) outs nows was.reads_back (subst (λ (z : Settings). AllReadBack z.body nows) x.limits (e.step.reads_back s (h ++ was.more) was.stands));
+        };
+        limits = e.limits ∙ x.limits;
+      }
+
   exchanged_more : (old m n : AdapterState D) (s : List ℕ) (h : List Entry) (outs : List Message) → InTurnLimits old m s h outs → Exchanges shown m n → InTurnLimits old n s h outs
   exchanged_more old m n s h outs x e = record {
     stands = record {
@@ -291,6 +308,7 @@ module _ {D : Type 0} (shown : D → Shown) (follows : Goes D) where
         stands = one_more old m n s used [] used h outs nows (to_poll 0) there.stands there.limits r (append-nil (s ++ used));
         limits = r.limits ∙ there.limits;
       }
+  in_turn old s h x _ _ _ (emitted used outs name body bytes m n y e) = emitted_more old m n (s ++ used) h outs name body bytes (in_turn old s h x used outs m y) e
   in_turn old s h x _ _ _ (exchanged used outs m n y e) = exchanged_more old m n (s ++ used) h outs (in_turn old s h x used outs m y) e
 
   pub calls_add_up : CallsInTurnAddUp shown follows

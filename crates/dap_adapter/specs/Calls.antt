@@ -1,5 +1,5 @@
 -- What the calls of an adapter do, as their contracts say it.
-use Rattle.std.specs.Prelude.{◌≡◌, ◌≢◌, ◌⊎◌, false, IsOk, OnErr, Result, ℕ, ◌<◌, ◌≤◌, List, [], ◌∷◌, ◌++◌, length, take, drop, Option, Some, None, Ok, Err, ⊤, true, Vec}
+use Rattle.std.specs.Prelude.{◌≡◌, ◌≢◌, ◌⊎◌, false, IsOk, OnErr, Result, ℕ, ◌<◌, ◌≤◌, List, [], ◌∷◌, ◌++◌, length, take, drop, Option, Some, None, Ok, Err, ⊤, true, Vec, is_some}
 use Rattle.std.specs.Borrow.{Bor}
 use Rattle.dap_frame.specs.Feeds.{Gathers}
 use Rattle.dap_frame.specs.Intake.{Intake}
@@ -23,6 +23,9 @@ use Rattle.dap_plan.specs.Handling.{some_plan, turns}
 use Rattle.dap_plan.specs.Plan.{Plan, written_by, entries_of}
 use Rattle.dap_outbox.specs.Draft.{bytes_of}
 use Rattle.dap_plan.specs.Polling.{polls, has_debuggee}
+use Rattle.dap_plan.specs.Emitting.{IsWhyNotEmitted, emit_faults, emits, first_emit_fault}
+use Rattle.dap_plan.specs.declared.fault.EmitFault.{EmitFault}
+use Rattle.serde_json.specs.Data.{Data}
 use Rattle.dap_plan.specs.SessionState.{SessionState, SessionStep, IsUnasked, HasTooMany, AppendsSome}
 use Rattle.dap_plan.specs.Session.{Session, oldest, to_handle}
 use Rattle.dap_reader.specs.Reader.{Reader}
@@ -136,6 +139,22 @@ abbrev pub PollRefused : {D : Type 0} → Goes D → AdapterState D → AdapterF
 PollRefused follows old OutOfMemory new = has_debuggee old.session.phase ≡ true
 PollRefused follows old SeqExhausted new = HasTooMany follows (polls old.session) (state_of old) (state_of new)
 PollRefused follows old fault new = ⊥
+
+-- ---- emit
+
+-- an event was told by its name: no refusal holds, its message is written, and nothing else has changed but the own numbers
+pub record Emits {D : Type 0} (follows : Goes D) (name : List ℕ) (body : Option Data) (old : AdapterState D) (bytes : List ℕ) (new : AdapterState D) : Type 0 where
+  pub free : first_emit_fault emit_faults name body (is_some old.fault) old.session ≡ None
+  pub intake : new.intake ≡ old.intake
+  pub fault : new.fault ≡ old.fault
+  pub debuggee : new.debuggee ≡ old.debuggee
+  pub limits : new.session.limits ≡ old.session.limits
+  pub step : Step follows (emits name body old.session) old new [] [] bytes
+  pub within : new.session.used ≤ old.session.limits.seq
+
+-- why it was not
+abbrev pub NotEmitted : {D : Type 0} → List ℕ → Option Data → AdapterState D → EmitFault → Type 0
+NotEmitted name body old fault = IsWhyNotEmitted fault name body (is_some old.fault) old.session
 
 -- ---- the same, of what a call gives
 

@@ -5,7 +5,7 @@ ghost use Rattle.dap_frame.specs.Ends.{EndsWith};
 ghost use Rattle.dap_frame.specs.Intake.{StandsFor as StandsForStream};
 ghost use Rattle.dap_frame.specs.declared.frames.End.{End};
 ghost use Rattle.dap_plan.specs.declared.fault.AdapterFault.{AdapterFault};
-ghost use Rattle.dap_adapter.specs.Calls.{Exchanges, IdlesWithNone, KeepsDebuggee, KeepsDebuggeeUnlessAsked, PieceNotTakenUp, PollNotMade, PollsWithNone, TakeRefused, TurnNotMade};
+ghost use Rattle.dap_adapter.specs.Calls.{Exchanges, IdlesWithNone, KeepsDebuggee, KeepsDebuggeeUnlessAsked, NotEmitted, PieceNotTakenUp, PollNotMade, PollsWithNone, TakeRefused, TurnNotMade};
 ghost use Rattle.dap_frame.specs.Closed.{StaysClosed};
 ghost use Rattle.dap_adapter.specs.PrivateReceives.{HasReceived, IsBy};
 ghost use Rattle.dap_reader.specs.declared.fault.ReadFault.{ReadFault};
@@ -14,6 +14,7 @@ ghost use Rattle.dap_tables.specs.References.{target_of};
 ghost use Rattle.dap_tables.specs.SourceMap.{count, set_of};
 ghost use Rattle.dap_plan.specs.Session.{fresh_session, opened_session, offers_fit, oldest, own_requests, to_handle};
 ghost use Rattle.dap_plan.specs.SessionState.{AppendsSome};
+ghost use Rattle.dap_json.specs.Writable.{is_plain_tree};
 ghost use Rattle.dap_decision.specs.Table.{is_phase};
 ghost use Rattle.dap_decision.specs.declared.phase.Phase.TheVariants.{Asked};
 
@@ -23,8 +24,9 @@ use dap_debuggee::{Debuggee, HasMail};
 use dap_envelope::laws::read_is_in_range;
 use dap_frame::{End, Limits};
 use dap_history::laws::histories_grow;
-use dap_plan::AdapterFault;
+use dap_json::Tree;
 use dap_plan::laws::{each_step_goes_on, each_step_stays_within};
+use dap_plan::{AdapterFault, EmitFault};
 use dap_reader::{MessageReader, Next, ReadFault};
 use dap_session::{Phase, Session, usual_offers};
 use dap_tables::Target;
@@ -55,7 +57,7 @@ impl<D: Debuggee + Drop> Model for Adapter<D> {
 }
 
 impl<D: Debuggee + Drop> Adapter<D> {
-    ghost use Rattle.dap_adapter.specs.Calls.{Takes, TakesUp, TurnGives, GivesTurn, Handled, LeavesFewer, Saw};
+    ghost use Rattle.dap_adapter.specs.Calls.{Takes, TakesUp, TurnGives, GivesTurn, Handled, LeavesFewer, Saw, Emits};
     ghost use Rattle.dap_adapter.specs.StandsFor.{StandsFor};
     ghost use Rattle.dap_adapter.specs.declared.taken.Turned.{Turned};
 
@@ -376,6 +378,40 @@ impl<D: Debuggee + Drop> Adapter<D> {
                 Err(fault)
             }
         }
+    }
+
+    /// Tells an event by its name, such as `module` or `progressStart`, with a body or none: it is appended to `out`, with the next
+    /// own number. The debuggee is asked nothing, and all else stays as it is. A refused event changes nothing, and the adapter
+    /// goes on.
+    ///
+    /// # Errors
+    /// The first of these that holds: `Closed` after a fault; `WrongPhase` before `initialize` and once `disconnect` was
+    /// answered; `Reserved` for the six that say what a client may do next: `initialized`, `stopped`, `continued`, `exited` and
+    /// `terminated`, which the adapter tells by itself, and `capabilities`; `TooLarge` where the body of the message would be
+    /// longer than its limit; `SeqExhausted` where no own number is left. `OutOfMemory` where memory is refused: never where one
+    /// of the first three holds.
+    pub fn emit(
+        &mut self,
+        alloc: Global,
+        event: &str,
+        body: &Option<Tree>,
+        out: &mut Vec<u8>,
+    ) -> Result<(), EmitFault>
+        requires plain { IsTrue (is_plain_tree body.now) }
+        ensures emits { OnOk result (AppendsSome (λ bytes. Emits D.follows event.now body.now self.old bytes self.new) out.old.items out.new.items) }
+        ensures limits { self.new.session.limits ≡ self.old.session.limits }
+
+        // Why it is refused; then nothing has changed.
+        ensures refused { IfErr result (NotEmitted event.now body.now self.old) }
+        ensures unchanged { OnErr result (self.new ≡ self.old) }
+        ensures buffer { OnErr result (out.new.items ≡ out.old.items) }
+    {
+        histories_grow();
+        read_is_in_range();
+        each_step_goes_on();
+        each_step_stays_within();
+        let closed = self.fault.is_some();
+        self.session.emit(alloc, closed, event, body, out)
     }
 
     /// How the client's bytes end, if no more come.

@@ -18,7 +18,11 @@ use Rattle.dap_c_parts.specs.declared.found.YtFound.{YtFound}
 use Rattle.dap_c_parts.specs.declared.limits.YtLimits.{YtLimits}
 use Rattle.dap_c_adapter.specs.Acts.{IsActFound}
 use Rattle.dap_c_adapter.specs.AdapterBehind.{FromTo}
-use Rattle.dap_c_adapter.specs.AdapterCalls.{IsOpenedOver, IsOpenedWith, AdapterTakes, RefusesAdapterPiece, IsAdapterAsBefore, AdapterTurns, RefusesTurn, Tells, IsStop, moment_over, AreSources, IsCodeOfText, category_of, variable_told, variable_with, acts_due}
+use Rattle.dap_line.specs.Told.{category_named}
+use Rattle.dap_live.specs.MailState.{with_ahead}
+use Rattle.std.specs.Option.{IsSome}
+use Rattle.dap_c_adapter.specs.AdapterCalls.{IsOpenedOver, IsOpenedWith, AdapterTakes, RefusesAdapterPiece, IsAdapterAsBefore, AdapterTurns, RefusesTurn, Tells, IsStop, moment_over, over_mail, AreSources, IsCodeOfText, category_of, variable_told, variable_with, acts_due}
+use Rattle.dap_c_adapter.specs.Ahead.{ahead_by}
 use Rattle.dap_c_adapter.specs.Beside.{CanBeSaid, said_by}
 use Rattle.dap_c_adapter.specs.AdapterFaults.{adapter_number, IsAdapterFaultFound}
 use Rattle.dap_c_adapter.specs.AdapterSeen.{IsAdapterState, IsTarget}
@@ -58,6 +62,13 @@ KeepsFrame old new = (new.frame ≡ old.frame) × (new.whole ≡ old.whole)
 -- the adapter, and what can be fetched
 abbrev pub KeepsAllElse : HeldAdapter → HeldAdapter → Type 0
 KeepsAllElse old new = (new.adapter ≡ old.adapter) × (new.bytes ≡ old.bytes) × (new.frame ≡ old.frame) × (new.whole ≡ old.whole)
+
+-- what can be fetched, and the variables that were gathered
+pub record KeepsFetched (old new : HeldAdapter) : Type 0 where
+  pub bytes : new.bytes ≡ old.bytes
+  pub frame : new.frame ≡ old.frame
+  pub whole : new.whole ≡ old.whole
+  pub variables : new.variables ≡ old.variables
 
 -- the variables that were gathered
 abbrev pub KeepsGathered : HeldAdapter → HeldAdapter → Type 0
@@ -136,6 +147,11 @@ OutputsWith category output more code found old new =
 abbrev pub Outputs : ℕ → List ℕ → ℕ → YtFound → HeldAdapter → HeldAdapter → Type 0
 Outputs category output code found old new = OutputsWith category output [] code found old new
 
+-- output of a category by its name
+abbrev pub OutputsNamed : List ℕ → List ℕ → List ℕ → ℕ → YtFound → HeldAdapter → HeldAdapter → Type 0
+OutputsNamed category output more code found old new =
+    TellsWhere (λ told. CanBeSaid more × (told ≡ said.Output (category_named category) output (unwrap_or (said_by more) []))) code found old new
+
 -- there are five categories, from 0 on
 abbrev pub RefusesUnknown : ℕ → ℕ → HeldAdapter → HeldAdapter → Type 0
 RefusesUnknown category code old new = 4 < category → code ≡ 103
@@ -198,6 +214,21 @@ Gathers old new name value has_parts holder code =
 abbrev pub GathersWith : YtAdapter → YtAdapter → List ℕ → List ℕ → Bool → ℕ → List ℕ → ℕ → Type 0
 GathersWith old new name value has_parts holder more code =
     FromTo old new (λ a b. code ≡ 0 → CanBeSaid more × (b.variables.items ≡ a.variables.items ++ variable_with name value has_parts holder (unwrap_or (said_by more) []) ∷ []))
+
+-- ---- what the host says of what is asked next
+
+-- these bytes say nothing, or something that a host can say so
+abbrev pub CanBeAhead : List ℕ → Type 0
+CanBeAhead bytes = IsSome (ahead_by bytes)
+
+-- with the code 0 it counts in place of what was said before, and nothing else of the adapter has changed
+abbrev pub SaysAhead : List ℕ → ℕ → HeldAdapter → HeldAdapter → Type 0
+SaysAhead bytes code old new =
+    code ≡ 0 → CanBeAhead bytes × IfSome (ahead_by bytes) (λ ahead. new.adapter ≡ over_mail (with_ahead ahead old.adapter.debuggee.mail) old.adapter)
+
+-- it says neither, or memory was refused
+abbrev pub IsCodeOfAhead : ℕ → Type 0
+IsCodeOfAhead code = (code ≡ 103) ⊎ (code ≡ 104)
 
 -- ---- acts
 

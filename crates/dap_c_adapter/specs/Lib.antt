@@ -4,4 +4,6 @@ pub mod AdapterCalls
 pub mod AdapterExports
 pub mod AdapterFaults
 pub mod AdapterSeen
+pub mod Ahead
 pub mod Beside
+pub mod Emitting

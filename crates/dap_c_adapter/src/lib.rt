@@ -2,7 +2,8 @@
 //!
 //! It is of the same kind as `dap_c`, whose head says how. The host is not called: it fetches what it has to do, and says what
 //! happened. A file a concern: `adapter` has the session, `telling` what the host says, `beside` what it says beside that,
-//! `no_value` why a text has none, `acts` what it has to do.
+//! `output` under which name and in which pieces, `no_value` why a text has none, `ahead` what it says of what is asked next,
+//! `emitting` has the events that it tells by their names, `acts` what it has to do.
 #![tactic(auto)]
 
 mod acts;
@@ -10,9 +11,12 @@ mod adapter;
 mod adapter_handle;
 mod adapter_layout;
 mod adapter_state;
+mod ahead;
 mod beside;
+mod emitting;
 mod held_adapter;
 mod no_value;
+mod output;
 mod telling;
 
 pub use acts::{
@@ -25,9 +29,12 @@ pub use adapter::{
 pub use adapter_handle::{AdapterHandle, YtAdapter};
 pub use adapter_layout::{YtAdapterSizes, yt_adapter_sizes_of};
 pub use adapter_state::{YtAdapterSeen, YtTarget, yt_adapter_state, yt_adapter_target};
+pub use ahead::yt_adapter_ahead;
 pub use beside::{yt_adapter_learned_with, yt_adapter_output_with, yt_adapter_variable_with};
+pub use emitting::yt_adapter_emit;
 pub use held_adapter::HeldAdapter;
 pub use no_value::yt_adapter_no_value;
+pub use output::{yt_adapter_output_named, yt_output_piece};
 pub use telling::{
     yt_adapter_continued, yt_adapter_exited, yt_adapter_learned, yt_adapter_output,
     yt_adapter_sources, yt_adapter_stopped, yt_adapter_stopped_with, yt_adapter_variable,

@@ -15,10 +15,10 @@ pub const YT_TRUNCATED: u32 = 3;
 /// No request waits.
 pub const YT_IDLE: u32 = 4;
 
-/// `disconnect` was sent, or the client is closed.
+/// `disconnect` was sent, or the end is closed.
 pub const YT_ENDED: u32 = 11;
 
-/// The phase does not let the command be sent, and it does not merely wait for a stop.
+/// The phase does not let the command be sent, nor merely waits for a stop, or does not let the event be told.
 pub const YT_WRONG_PHASE: u32 = 12;
 
 /// The adapter does not offer the command.
@@ -41,6 +41,9 @@ pub const YT_SEQ_EXHAUSTED: u32 = 18;
 
 /// No request of the adapter with this number is kept.
 pub const YT_NOT_KEPT: u32 = 19;
+
+/// An event that says what a client may do next is not told by its name.
+pub const YT_RESERVED: u32 = 20;
 
 /// The stream is no frame.
 pub const YT_FRAME: u32 = 31;

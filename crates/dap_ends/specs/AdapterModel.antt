@@ -242,8 +242,13 @@ phase_after_happening AdapterStopped Continues = AdapterRunning
 phase_after_happening AdapterStopped Exits = AdapterExited
 phase_after_happening p _ = p
 
--- the events that it writes
+-- The events that it writes. Output stands for each event that tells a client nothing of what it may do: the debuggee's while it runs or is stopped, and one that is told by its name.
 abbrev pub events_after_happening : AdapterPhase → Happening → List Kind
+events_after_happening AdapterReady Output = OutputEvent ∷ []
+events_after_happening AdapterConfigured Output = OutputEvent ∷ []
+events_after_happening AdapterParked Output = OutputEvent ∷ []
+events_after_happening AdapterAsked Output = OutputEvent ∷ []
+events_after_happening AdapterExited Output = OutputEvent ∷ []
 events_after_happening AdapterRunning Output = OutputEvent ∷ []
 events_after_happening AdapterRunning Stops = StoppedEvent ∷ []
 events_after_happening AdapterRunning Continues = ContinuedEvent ∷ []

@@ -17,7 +17,7 @@ mod writing;
 
 pub use fault::{BodyFault, BodyRefusal};
 pub use heading::{Heading, HeadingKind, Noted, heading_of, none_noted, note_member, read_heading};
-pub use message::{Kind, MAX_COMMAND, Message};
+pub use message::{Kind, MAX_COMMAND, Message, is_plain_tree};
 pub use parts::{Event, Response};
 pub use reading::{read_message, read_message_with};
 pub use response_references::read_heading_and_references;

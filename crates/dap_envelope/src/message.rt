@@ -91,7 +91,9 @@ impl Kind {
     }
 }
 
-fn is_plain_tree(tree: &Option<Tree>) -> bool
+/// Whether this can be the arguments or the body of a message that is written: none, or a tree that is not `null`, has no float,
+/// and nests at most 120 deep.
+pub fn is_plain_tree(tree: &Option<Tree>) -> bool
     ensures plain { result ≡ plain_tree tree.now }
     ensures sound { IsTrue result → IsSoundTree tree.now }
 {

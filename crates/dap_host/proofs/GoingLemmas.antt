@@ -3,6 +3,10 @@ use Rattle.std.proofs.Common.{◌≡◌, ℕ, ◌≤◌, List, [], ◌∷◌, �
 use Rattle.std.specs.Prelude.{IfErr, IfOk}
 use Rattle.dap_adapter.specs.AdapterState.{AdapterState}
 use Rattle.dap_adapter.specs.Bodies.{IsBetween, BodiesComeOneByOne}
+use Rattle.dap_adapter.specs.Calls.{Emits}
+use Rattle.dap_plan.specs.Plan.{written_by}
+use Rattle.dap_plan.specs.SessionState.{AppendsSome}
+use Rattle.serde_json.specs.Data.{Data}
 use Rattle.dap_adapter.specs.Parts.{AnswersPiece, StopsAfter}
 use Rattle.dap_adapter.specs.Run.{to_take, to_poll}
 use Rattle.dap_adapter.specs.StandsFor.{StandsFor}
@@ -21,7 +25,7 @@ use Rattle.dap_command.specs.declared.offer.Offer.{Offer}
 use Rattle.dap_plan.specs.Session.{Session, opened_session}
 use Rattle.dap_plan.specs.declared.fault.AdapterFault.{AdapterFault}
 use Rattle.dap_host.specs.Fed.{AnswersFed, TellsFed, mail_ahead, over_mail}
-use Rattle.dap_host.specs.Hearing.{HostState, Comes, with_ahead, sources_there, IsGoing, SameButAdapter, TakesMessage, AnswersMessage, TellsIt, StopsMessage, StopsTelling, RefusesTold, bad_moment, dropped, IsUnheard, drop_of}
+use Rattle.dap_host.specs.Hearing.{HostState, Comes, with_ahead, sources_there, IsGoing, SameButAdapter, TakesMessage, AnswersMessage, TellsIt, EmitsEvent, StopsMessage, StopsTelling, RefusesTold, bad_moment, dropped, IsUnheard, drop_of}
 use Rattle.dap_line.specs.Written.{message_lines, act_lines}
 use Rattle.dap_live.specs.declared.mail.Ahead.{Ahead}
 use Rattle.dap_live.specs.declared.mail.Coming.{Coming}
@@ -185,3 +189,17 @@ comes_at o h text sources phase t r found e is p d none s comes =
 pub going_ahead : (h k : HostState) (ahead : Ahead) → k ≡ with_ahead ahead h → IsGoing h → IsGoing k
 going_ahead h k ahead is going =
     subst IsGoing (sym is) (record { used = going.used; history = going.history; stands = going.stands; none_held = going.none_held; limits_are = going.limits_are; fetched = going.fetched })
+
+-- ---- an event is told by its name
+
+pub emit_at : (o h k : HostState) (name : List ℕ) (body : Option Data) (bytes before after : List ℕ) → o ≡ h → AppendsSome (λ more. Emits FollowsLive name body o.adapter more k.adapter) [] bytes
+    → ((outs : List Message) → bytes ≡ bytes_of outs → after ≡ before ++ message_lines outs) → SameButAdapter o k → EmitsEvent h name body before after k
+emit_at o h k name body bytes before after e a hands same =
+    let emitted : EmitsEvent o name body before after k = record { bytes = a.bytes; told = a.holds; lines = hands (written_by o.adapter.session a.holds.step.session.made) (a.items ∙ a.holds.step.bytes_are); same = same } in
+    subst (λ (z : HostState). EmitsEvent z name body before after k) e emitted
+
+pub emitted_going : (o h k : HostState) (name : List ℕ) (body : Option Data) (bytes : List ℕ) → o ≡ h → IsGoing h → Laws → AppendsSome (λ more. Emits FollowsLive name body o.adapter more k.adapter) [] bytes → k.limits ≡ o.limits → IsGoing k
+emitted_going o h k name body bytes e going laws a limits =
+    let was : IsGoing o = subst IsGoing (sym e) going in
+    let told = a.holds in
+    goes o k was told.limits limits (laws.emitted o.adapter k.adapter name body a.bytes (between o was) told) (ap (λ (v : LiveState). v.mail) told.debuggee ∙ was.fetched)

@@ -38,15 +38,20 @@ use Rattle.dap_tables.specs.References.{target_of}
 use Rattle.dap_plan.specs.declared.fault.AdapterFault.{AdapterFault}
 use Rattle.dap_plan.specs.declared.fault.AdapterFault.TheVariants.{OutOfMemory}
 use Rattle.dap_line.specs.Moments.{IsComing, Fails, HasRoom}
-use Rattle.dap_line.specs.Told.{IsMessage, said_of, happening_of}
+use Rattle.dap_line.specs.Told.{IsMessage, said_of, happening_of, ahead_with}
 use Rattle.dap_line.specs.Written.{message_lines, act_lines, refusal_line, target_line}
 use Rattle.dap_host.specs.declared.host.Mark.{Mark}
 use Rattle.dap_host.specs.declared.host.Mark.TheVariants as mark
 use Rattle.dap_line.specs.declared.refusal.Refusal.{Refusal}
-use Rattle.dap_line.specs.declared.refusal.Refusal.TheVariants.{TooLong, BadLine, Body, BodyTooLong, Ended, Dropped}
-use Rattle.dap_line.specs.declared.told.Said.TheVariants.{Happened, OfNext, Target}
+use Rattle.dap_line.specs.declared.refusal.Refusal.TheVariants.{TooLong, BadLine, Body, BodyTooLong, Ended, BadKey, Dropped, SeqExhausted}
+use Rattle.dap_line.specs.declared.told.Said.TheVariants.{Happened, Event, OfNext, Target}
+use Rattle.dap_line.specs.declared.refusal.HostKey.TheVariants.{Event as EventKey}
+use Rattle.dap_plan.specs.Plan.{written_by}
+use Rattle.dap_plan.specs.declared.fault.EmitFault.{EmitFault}
+use Rattle.dap_plan.specs.declared.fault.EmitFault.TheVariants as fault
+use Rattle.dap_adapter.specs.Calls.{NotEmitted, Emits}
+use Rattle.serde_json.specs.Data.{Data}
 use Rattle.dap_line.specs.declared.told.Note.{Note}
-use Rattle.dap_line.specs.declared.told.Note.TheVariants.{Places, Refuses as RefusesActs}
 use Rattle.dap_line.specs.declared.told.Told.{Told}
 use Rattle.dap_line.specs.declared.told.Unread.{Unread}
 use Rattle.dap_line.specs.declared.told.Unread.TheVariants.{Refused, OutOfMemory as NoMemory}
@@ -195,12 +200,28 @@ pub record AnswersTarget (old : HostState) (number : ℕ) (before after : List �
   pub line : after ≡ before ++ target_line number (target_of old.adapter.session.references number)
   pub same : new ≡ old
 
--- what is said of the next message is kept, in place of what was said of the same before
-abbrev pub ahead_with : Note → Ahead → Ahead
-ahead_with (Places placed) ahead = record ahead { placed = Some placed }
-ahead_with (RefusesActs why) ahead = record ahead { refusal = Some why }
+-- an event is told by its name: the line of what the adapter writes then
+pub record EmitsEvent (old : HostState) (name : List ℕ) (body : Option Data) (before after : List ℕ) (new : HostState) : Type 0 where
+  pub bytes : List ℕ
+  pub told : Emits FollowsLive name body old.adapter bytes new.adapter
+  pub lines : after ≡ before ++ message_lines (written_by old.adapter.session told.step.session.made)
+  pub same : SameButAdapter old new
 
--- and nothing else has changed
+-- why it is not, as a line's refusal; there is none where memory was refused
+abbrev pub emit_refusal : EmitFault → Option Refusal
+emit_refusal fault.Closed = Some Ended
+emit_refusal fault.WrongPhase = Some (Dropped OutOfTurn)
+emit_refusal fault.Reserved = Some (BadKey EventKey)
+emit_refusal fault.TooLarge = Some BodyTooLong
+emit_refusal fault.SeqExhausted = Some SeqExhausted
+emit_refusal fault.OutOfMemory = None
+
+-- it is, or the line is refused for the first reason that holds
+pub data EmitsOrRefuses (old : HostState) (name : List ℕ) (body : Option Data) (before after : List ℕ) (new : HostState) : Type 0 where
+  emits : EmitsEvent old name body before after new → EmitsOrRefuses old name body before after new
+  emit_refused : (f : EmitFault) (why : Refusal) → NotEmitted name body old.adapter f → emit_refusal f ≡ Some why → Refuses old why before after new → EmitsOrRefuses old name body before after new
+
+-- what is said of the next message is kept, in place of what was said of the same before, and nothing else has changed
 pub record KeepsNote (old : HostState) (note : Note) (before after : List ℕ) (new : HostState) : Type 0 where
   pub none : after ≡ before
   pub kept : new ≡ with_ahead (ahead_with note old.ahead) old
@@ -230,6 +251,7 @@ pub data HearsMessage (old : HostState) (body before after : List ℕ) (new : Ho
 
 pub data HearsHappening (old : HostState) (text before after : List ℕ) (new : HostState) : Type 0 where
   not_heard : (why : Refusal) → RefusesTold old text why → Refuses old why before after new → HearsHappening old text before after new
+  emitted : (name : List ℕ) (body : Option Data) → said_of text ≡ Ok (Event name body) → EmitsOrRefuses old name body before after new → HearsHappening old text before after new
   noted : (note : Note) → said_of text ≡ Ok (OfNext note) → KeepsNote old note before after new → HearsHappening old text before after new
   asked : (number : ℕ) → said_of text ≡ Ok (Target number) → AnswersTarget old number before after new → HearsHappening old text before after new
   heard : (coming : Coming) → HearsTold old text coming → TellsOrDrops old (parts_of coming) before after new → HearsHappening old text before after new

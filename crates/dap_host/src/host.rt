@@ -6,20 +6,21 @@ ghost use Rattle.dap_outbox.specs.Draft.{bytes_of};
 ghost use Rattle.dap_plan.specs.declared.fault.AdapterFault.{AdapterFault};
 ghost use Rattle.dap_decision.specs.Table.{is_phase};
 ghost use Rattle.dap_decision.specs.declared.phase.Phase.{Phase};
-ghost use Rattle.dap_host.specs.Hearing.{mark_of, state_of, drop_of, with_ahead, ahead_with};
-ghost use Rattle.dap_live.specs.MailState.{nothing_ahead};
+ghost use Rattle.dap_host.specs.Hearing.{emit_refusal, mark_of, state_of, drop_of, with_ahead};
+ghost use Rattle.dap_json.specs.Writable.{is_plain_tree};
+ghost use Rattle.dap_line.specs.Told.{ahead_with};
 
 use crate::fed::{answer_fed, tell_fed};
 use crate::limits::limits_are_in_range;
 use crate::messages::push_messages;
 use crate::offers::{OffersFault, read_offers};
-use dap_adapter::{Adapter, AdapterFault, Phase, bodies_come_one_by_one};
+use dap_adapter::{Adapter, AdapterFault, EmitFault, Phase, bodies_come_one_by_one};
 use dap_debuggee::{Category, State};
 use dap_frame::Limits;
 use dap_json::object_reader::Scratch;
-use dap_json::{More, Text};
+use dap_json::{More, Text, Tree};
 use dap_line::{
-    Note, Refusal, Said, Told, Unread, body_refusal, coming_of, happening_in, push_acts,
+    HostKey, Note, Refusal, Said, Told, Unread, body_refusal, coming_of, happening_in, push_acts,
     push_refusal, push_target, read_said,
 };
 use dap_live::{Ahead, Coming, Dropped, HostAct, Live, why_dropped};
@@ -82,12 +83,17 @@ fn behind_mark(line: &[u8]) -> &[u8]
     }
 }
 
-fn nothing_ahead() -> Ahead
-    ensures { result ≡ nothing_ahead }
+/// Why an event is not told, as a line's refusal; `None` where memory was refused.
+fn emit_refusal(fault: EmitFault) -> Option<Refusal>
+    ensures { result ≡ emit_refusal fault }
 {
-    Ahead {
-        placed: None,
-        refusal: None,
+    match fault {
+        EmitFault::Closed => Some(Refusal::Ended),
+        EmitFault::WrongPhase => Some(Refusal::Dropped(Dropped::OutOfTurn)),
+        EmitFault::Reserved => Some(Refusal::BadKey(HostKey::Event)),
+        EmitFault::TooLarge => Some(Refusal::BodyTooLong),
+        EmitFault::SeqExhausted => Some(Refusal::SeqExhausted),
+        EmitFault::OutOfMemory => None,
     }
 }
 
@@ -149,7 +155,7 @@ impl Model for Host {
 
 impl Host {
     ghost use Rattle.std.specs.Prelude.{◌≡◌, ◌≢◌, ◌↔◌, ◌<◌, ◌++◌, ◌∷◌, [], List, ℕ, length, IfOk, IfErr, OnOk, OnErr, IfSome, IsTrue, None, Ok, Err, true, false};
-    ghost use Rattle.dap_host.specs.Hearing.{IsFresh, IsGoing, RefusesMessage, TakesMessage, Comes, HearsTold, IsUnheard, AnswersMessage, dropped_line, TellsIt, TellsUntil, TellsOrDrops, StopsMessage, StopsTelling, StopsWithin, HearsMessage, HearsHappening, HearsMarked, StopsMarked, HearsText, Hears, HearsLonger, Halts, RefusesFile, counted};
+    ghost use Rattle.dap_host.specs.Hearing.{IsFresh, IsGoing, RefusesMessage, TakesMessage, Comes, HearsTold, IsUnheard, AnswersMessage, dropped_line, TellsIt, TellsUntil, TellsOrDrops, StopsMessage, StopsTelling, StopsWithin, HearsMessage, HearsHappening, EmitsOrRefuses, HearsMarked, StopsMarked, HearsText, Hears, HearsLonger, Halts, RefusesFile, counted};
     ghost use Rattle.dap_host.specs.Parts.{parts_of, outputs, outputs_alone, texts_told};
     ghost use Rattle.dap_line.specs.Moments.{HasRoom};
     ghost use Rattle.dap_live.specs.declared.mail.Coming.TheVariants as news;
@@ -201,7 +207,7 @@ impl Host {
             limits,
             longest,
             number: 0,
-            ahead: nothing_ahead(),
+            ahead: Ahead::none(),
             scratch: Scratch::new(alloc),
         })
     }
@@ -345,7 +351,7 @@ impl Host {
         limits_are_in_range(&self.limits);
         bodies_come_one_by_one::<Live>();
         let mut bytes = Vec::new(alloc);
-        let ahead = std::mem::replace(&mut self.ahead, nothing_ahead());
+        let ahead = std::mem::replace(&mut self.ahead, Ahead::none());
         match answer_fed(alloc, &mut self.adapter, ahead, body, &mut bytes) {
             Ok(acts) => hand_out(alloc, &bytes, &acts, out),
             Err(fault) => Err(break_off(&bytes, fault, out)),
@@ -380,6 +386,7 @@ impl Host {
     {
         match read_said(alloc, &mut self.scratch, text) {
             Ok(Said::Happened(told)) => self.hear_told(alloc, text, told, out),
+            Ok(Said::Event { event, body }) => self.emit(alloc, &event, &body, out),
             Ok(Said::OfNext(note)) => {
                 self.keep_note(note);
                 Ok(())
@@ -390,14 +397,40 @@ impl Host {
         }
     }
 
+    /// Lets the adapter tell an event by its name, or refuses the line.
+    fn emit(
+        &mut self,
+        alloc: Global,
+        event: &Text,
+        body: &Option<Tree>,
+        out: &mut Vec<u8>,
+    ) -> Result<(), AdapterFault>
+        requires going { IsGoing self.old }
+        requires plain { IsTrue (is_plain_tree body.now) }
+        ensures emits { OnOk result (EmitsOrRefuses self.old event.now body.now out.old.items out.new.items self.new) }
+        ensures going { OnOk result (IsGoing self.new) }
+        ensures memory { IfErr result (λ fault. fault ≡ AdapterFault.OutOfMemory) }
+    {
+        // For the proof: no message is under way.
+        bodies_come_one_by_one::<Live>();
+        let mut bytes = Vec::new(alloc);
+        match self.adapter.emit(alloc, event.as_str(), body, &mut bytes) {
+            Ok(()) => match push_messages(&bytes, out) {
+                Ok(()) => Ok(()),
+                Err(_) => Err(AdapterFault::OutOfMemory),
+            },
+            Err(fault) => match emit_refusal(fault) {
+                Some(why) => self.refuse(why, out),
+                None => Err(AdapterFault::OutOfMemory),
+            },
+        }
+    }
+
     /// Keeps what is said of the next message.
     fn keep_note(&mut self, note: Note)
         ensures { self.new ≡ with_ahead (ahead_with note self.old.ahead) self.old }
     {
-        match note {
-            Note::Places(placed) => self.ahead.placed = Some(placed),
-            Note::Refuses(why) => self.ahead.refusal = Some(why),
-        }
+        note.keep_in(&mut self.ahead);
     }
 
     /// Answers what a number of the client names.

@@ -1,5 +1,5 @@
 -- What a host tells: which JSON tells what, or the first bad key. The format is this profile's choice; `null` counts as absent.
-use Rattle.std.specs.Prelude.{◌≡◌, ℕ, ℤ, zero, suc, Bool, true, false, List, [], ◌∷◌, ◌++◌, take, codes, bytes_eq, Vec, Option, Some, None, option_and_then, option_map, unwrap_or, Result, Ok, Err, if◌then◌else◌}
+use Rattle.std.specs.Prelude.{◌≡◌, ℕ, ℤ, zero, suc, Bool, true, false, List, [], ◌∷◌, ◌++◌, take, codes, bytes_eq, Vec, Option, Some, None, option_and_then, option_map, unwrap_or, Result, Ok, Err, if◌then◌else◌, IsTrue}
 use Rattle.serde_json.specs.Data.{Data, Items, no_items, item}
 use Rattle.serde_json.specs.Find.{as_str, as_bool, as_array}
 use Rattle.dap_json.specs.Numbers.{int_of, number_of}
@@ -12,16 +12,18 @@ use Rattle.dap_command.specs.declared.source_key.SourceKey.TheVariants as source
 use Rattle.dap_debuggee.specs.declared.answers.Placement.{Placement}
 use Rattle.dap_debuggee.specs.declared.explanation.Explanation.{Explanation}
 use Rattle.dap_debuggee.specs.declared.answers.Variable.{Variable}
+use Rattle.dap_live.specs.declared.mail.Ahead.{Ahead}
 use Rattle.dap_json.specs.Field.{tree_at}
 use Rattle.dap_json.specs.More.{more_of}
 use Rattle.dap_json.specs.Property.{or_bad, required, in_shape, in_shape_or}
 use Rattle.dap_json.specs.Read.{json_of}
+use Rattle.dap_json.specs.Writable.{is_plain_tree}
 use Rattle.dap_json.specs.Steps.{◌>>=◌, Returns}
 use Rattle.dap_recording.specs.Pieces.{piece_length}
 use Rattle.dap_recording.specs.Reading.{exit_of}
 use Rattle.dap_line.specs.Written.{host_key_name}
 use Rattle.dap_line.specs.declared.refusal.HostKey.{HostKey}
-use Rattle.dap_line.specs.declared.refusal.HostKey.TheVariants.{Happened, Category, Output, Reason, Thread, Moment, Code, Text, Value, Later, Holder, Variables, Name, Asked, Number, Sources, More, Why, ShowUser, Placed, Refuses, Path, SourceReference, Breakpoints, Line, Verified, Message as Words}
+use Rattle.dap_line.specs.declared.refusal.HostKey.TheVariants.{Happened, Category, Output, Reason, Thread, Moment, Code, Text, Value, Later, Holder, Variables, Name, Asked, Number, Sources, More, Why, ShowUser, Placed, Refuses, Path, SourceReference, Breakpoints, Line, Verified, Message as Words, Event as EventKey, Body as BodyKey}
 use Rattle.dap_line.specs.declared.refusal.Refusal.{Refusal}
 use Rattle.dap_line.specs.declared.refusal.Refusal.TheVariants.{NotJson, BadKey}
 use Rattle.dap_line.specs.declared.told.Kind.{Kind}
@@ -30,6 +32,7 @@ use Rattle.dap_line.specs.declared.told.Told.{Told}
 use Rattle.dap_line.specs.declared.told.Told.TheVariants as told
 use Rattle.dap_line.specs.declared.told.Question.{Question}
 use Rattle.dap_line.specs.declared.told.Question.TheVariants as question
+use Rattle.dap_line.specs.declared.told.Note.{Note}
 use Rattle.dap_line.specs.declared.told.Note.TheVariants as note
 use Rattle.dap_line.specs.declared.told.Said.{Said}
 use Rattle.dap_line.specs.declared.told.Said.TheVariants as said
@@ -269,7 +272,19 @@ placed_in d = do
   places ← places_of (option_and_then as_array (value_at Breakpoints d))
   Ok (said.OfNext (note.Places (record { source = key; lines = places.0; placements = places.1 })))
 
--- ---- what is said: what happened, something of the next message, or a question
+-- ---- an event that is told by its name
+
+-- a body that can be written
+abbrev pub body_of : Data → Option Data
+body_of d = if is_plain_tree (Some d) then Some d else None
+
+unfoldable pub event_in : Data → Read Said
+event_in d = do
+  name ← required_at as_str EventKey d
+  body ← optional_at body_of BodyKey d
+  Ok (said.Event name body)
+
+-- ---- what is said: what happened, an event, something of the next message, or a question
 
 -- that what the next message asks for is refused, and why
 unfoldable pub refusal_in : Data → Read Said
@@ -294,15 +309,28 @@ happened_in d = do
   told ← told_in d
   Ok (said.Happened told)
 
--- a question where there is one, else where breakpoints are, or that something is refused, where that is said, else what happened
-abbrev pub said_by : Option Data → Option Data → Option Data → Data → Read Said
-said_by None None None d = happened_in d
-said_by None None (Some why) d = refusal_in d
-said_by None (Some source) refuses d = placed_in d
-said_by (Some asked) placed refuses d = asked_in d
+-- a question where there is one, else where breakpoints are, that something is refused, or an event, where that is said, else what happened
+abbrev pub said_by : Option Data → Option Data → Option Data → Option Data → Data → Read Said
+said_by None None None None d = happened_in d
+said_by None None None (Some event) d = event_in d
+said_by None None (Some why) event d = refusal_in d
+said_by None (Some source) refuses event d = placed_in d
+said_by (Some asked) placed refuses event d = asked_in d
 
 abbrev pub said_in : Data → Read Said
-said_in d = said_by (value_at Asked d) (value_at Placed d) (value_at Refuses d) d
+said_in d = said_by (value_at Asked d) (value_at Placed d) (value_at Refuses d) (value_at EventKey d) d
+
+-- the body of an event can be written
+abbrev pub IsPlainSaid : Said → Type 0
+IsPlainSaid (said.Event name body) = IsTrue (is_plain_tree body)
+IsPlainSaid (said.Happened told) = Unit {0}
+IsPlainSaid (said.OfNext note) = Unit {0}
+IsPlainSaid (said.Target number) = Unit {0}
+
+-- what is said of the next message, in place of what was said of the same before
+abbrev pub ahead_with : Note → Ahead → Ahead
+ahead_with (note.Places placed) ahead = record ahead { placed = Some placed }
+ahead_with (note.Refuses why) ahead = record ahead { refusal = Some why }
 
 -- ---- a text
 

@@ -20,9 +20,9 @@ use Rattle.dap_tables.specs.declared.reference_kind.ReferenceKind.{ReferenceKind
 use Rattle.dap_tables.specs.declared.reference_kind.ReferenceKind.TheVariants.{Frame, Holder as Locals}
 use Rattle.dap_tables.specs.declared.target.Target.{Target}
 use Rattle.dap_line.specs.declared.refusal.HostKey.{HostKey}
-use Rattle.dap_line.specs.declared.refusal.HostKey.TheVariants.{Happened, Category, Output, Reason, Thread, Moment, Code, Text, Value, Later, Holder, Variables, Name, Asked, Number, Sources, More, Why, ShowUser, Placed, Refuses, Path as PathKey, SourceReference, Breakpoints, Line, Verified, Message as Words}
+use Rattle.dap_line.specs.declared.refusal.HostKey.TheVariants.{Happened, Category, Output, Reason, Thread, Moment, Code, Text, Value, Later, Holder, Variables, Name, Asked, Number, Sources, More, Why, ShowUser, Placed, Refuses, Path as PathKey, SourceReference, Breakpoints, Line, Verified, Message as Words, Event as EventKey, Body as BodyKey}
 use Rattle.dap_line.specs.declared.refusal.Refusal.{Refusal}
-use Rattle.dap_line.specs.declared.refusal.Refusal.TheVariants.{TooLong, BadLine, Body, BodyTooLong, Ended, NotJson, BadKey, BadMoment, BadSources, Dropped}
+use Rattle.dap_line.specs.declared.refusal.Refusal.TheVariants.{TooLong, BadLine, Body, BodyTooLong, Ended, NotJson, BadKey, BadMoment, BadSources, Dropped, SeqExhausted}
 
 -- ---- messages for the client
 
@@ -128,6 +128,8 @@ host_key_name Breakpoints = codes "breakpoints"
 host_key_name Line = codes "line"
 host_key_name Verified = codes "verified"
 host_key_name Words = codes "message"
+host_key_name EventKey = codes "event"
+host_key_name BodyKey = codes "body"
 
 abbrev pub dropped_name : Drop → List ℕ
 dropped_name OutOfTurn = codes "OutOfTurn"
@@ -147,6 +149,7 @@ reason_of (BadKey k) = codes "BadKey " ++ host_key_name k
 reason_of (BadMoment k) = codes "BadMoment " ++ name_of k
 reason_of (BadSources k) = codes "BadSources " ++ name_of k
 reason_of (Dropped why) = dropped_name why
+reason_of SeqExhausted = codes "SeqExhausted"
 
 abbrev pub refusal_front : ℕ → List ℕ
 refusal_front n = codes "! {\"refused\":" ++ (decimal n ++ codes ",\"why\":\"")

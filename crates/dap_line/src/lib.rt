@@ -19,4 +19,4 @@ pub use moments::coming_of;
 pub use reading::body_refusal;
 pub use refusal::{HostKey, Refusal, push_refusal};
 pub use targets::push_target;
-pub use told::{Note, Said, Told, Unread, happening_in, read_said};
+pub use told::{Note, Said, Told, Unread, category_named, happening_in, read_said};

@@ -3,7 +3,7 @@ ghost use Rattle.std.specs.Prelude.{◌≡◌, [], Some, IfOk, option_map, optio
 ghost use Rattle.serde_json.specs.Find.{as_array, as_str};
 ghost use Rattle.serde_json.specs.View.{view, items_view};
 ghost use Rattle.dap_json.specs.Steps.{Returns};
-ghost use Rattle.dap_line.specs.Told.{Gives, SaysKey, value_at, optional_at, optional_or, source_named, source_in as source_of, line_of, place_of, each_place, places_of, placed_in as placed_of};
+ghost use Rattle.dap_line.specs.Told.{Gives, SaysKey, value_at, optional_at, optional_or, source_named, source_in as source_of, line_of, place_of, each_place, places_of, placed_in as placed_of, IsPlainSaid};
 
 use crate::refusal::HostKey;
 use crate::told::{Note, Said, Unread, at, beside_in};
@@ -114,7 +114,8 @@ fn places_in(alloc: Global, said: &Value) -> Result<(Vec<u32>, Vec<Placement>), 
 /// Where breakpoints are that are to be set in a source.
 #[tactic(auto, unfolding(crate::specs::Told::placed_in))]
 pub(crate) fn placed_in(alloc: Global, said: &Value) -> Result<Said, Unread>
-    ensures { Gives result (placed_of (view said.now)) }
+    ensures gives { Gives result (placed_of (view said.now)) }
+    ensures plain { IfOk result IsPlainSaid }
 {
     let named = at(said, HostKey::Placed).found.ok_or(HostKey::Placed)?;
     let source = source_in(alloc, named)?;

@@ -38,6 +38,8 @@ pub enum HostKey {
     Line,
     Verified,
     Message,
+    Event,
+    Body,
 }
 
 impl HostKey {
@@ -75,6 +77,8 @@ impl HostKey {
             HostKey::Line => "line",
             HostKey::Verified => "verified",
             HostKey::Message => "message",
+            HostKey::Event => "event",
+            HostKey::Body => "body",
         }
     }
 }
@@ -102,6 +106,8 @@ pub enum Refusal {
     BadSources(RecordingKey),
     /// It is dropped.
     Dropped(Dropped),
+    /// No own number is left for the event that it tells.
+    SeqExhausted,
 }
 
 fn dropped_name(dropped: Dropped) -> &'static str
@@ -140,6 +146,7 @@ fn push_reason(out: &mut Vec<u8>, why: Refusal) -> Result<(), AllocError>
         Refusal::BadMoment(key) => push_key(out, b"BadMoment ", key.name()),
         Refusal::BadSources(key) => push_key(out, b"BadSources ", key.name()),
         Refusal::Dropped(dropped) => out.extend_from_slice(dropped_name(dropped).as_bytes()),
+        Refusal::SeqExhausted => out.extend_from_slice(b"SeqExhausted"),
     }
 }
 

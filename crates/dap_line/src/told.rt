@@ -1,23 +1,25 @@
 //! What a host tells of its debugger, as it is read.
-ghost use Rattle.std.specs.Prelude.{◌≡◌, [], take, IfOk};
+ghost use Rattle.std.specs.Prelude.{◌≡◌, [], take, IfOk, IsTrue, Some};
 ghost use Rattle.serde_json.specs.Find.{as_str, as_array};
 ghost use Rattle.serde_json.specs.View.{view, items_view};
 ghost use Rattle.dap_json.specs.Lent.{lent_data};
 ghost use Rattle.dap_json.specs.More.{more_of};
 ghost use Rattle.dap_json.specs.Numbers.{number_of};
+ghost use Rattle.dap_json.specs.Writable.{is_plain_tree as plain_tree};
 ghost use Rattle.dap_recording.specs.Pieces.{piece_length};
 ghost use Rattle.dap_line.specs.Told.{Gives, GivesList, Tells, value_at, required_at, optional_at, category_in as category_in_data, category_named as category_of_name, variable_of, each_variable, variables_of as variables_of_items, variables_in as variables_told, learned_by as learned_of_key, loaded_in as loaded_of};
-ghost use Rattle.dap_line.specs.Told.{output_in as output_of, stop_in as stop_of, continued_in as continued_of, exit_in as exit_of, learned_in as learned_of, no_value_in as no_value_of, text_by as text_of_keys, kind_named as kind_of_name, kind_of, told_in as told_of, happening_of, question_named as question_of_name, question_of, asked_in as asked_of, happened_in as happened_of, explanation_in as explanation_of, refusal_in as refusal_of, said_in as said_of};
+ghost use Rattle.dap_line.specs.Told.{output_in as output_of, stop_in as stop_of, continued_in as continued_of, exit_in as exit_of, learned_in as learned_of, no_value_in as no_value_of, text_by as text_of_keys, body_of, event_in as event_of, IsPlainSaid, kind_named as kind_of_name, kind_of, told_in as told_of, happening_of, question_named as question_of_name, question_of, asked_in as asked_of, happened_in as happened_of, explanation_in as explanation_of, refusal_in as refusal_of, said_in as said_of};
 ghost use Rattle.std.specs.Option.{is_some};
 
 use crate::places::placed_in;
 use crate::reading::read_value;
 use crate::refusal::{HostKey, Refusal};
 use dap_debuggee::{Category, Explanation, Happening, Variable};
+use dap_envelope::is_plain_tree;
 use dap_json::object_reader::Scratch;
 use dap_json::property::Property;
 use dap_json::{List, More, ParseFault, Text, Tree, field};
-use dap_live::Placed;
+use dap_live::{Ahead, Placed};
 use dap_recording::{numbers, piece_length};
 use serde_json::Value;
 use std::alloc::{AllocError, AllocFailed, Global};
@@ -71,10 +73,27 @@ pub enum Note {
     Refuses(Explanation),
 }
 
-/// What a host says: what it tells, something of the next message, or a question.
+impl Note {
+    ghost use Rattle.std.specs.Prelude.{◌≡◌};
+    ghost use Rattle.dap_line.specs.Told.{ahead_with};
+
+    /// Keeps it, in place of what was said of the same before.
+    pub fn keep_in(self, ahead: &mut Ahead)
+        ensures { ahead.new ≡ ahead_with self ahead.old }
+    {
+        match self {
+            Note::Places(placed) => ahead.placed = Some(placed),
+            Note::Refuses(why) => ahead.refusal = Some(why),
+        }
+    }
+}
+
+/// What a host says: what it tells, an event, something of the next message, or a question.
 #[derive(Drop)]
 pub enum Said {
     Happened(Told),
+    /// An event that is told by its name, with a body that can be written.
+    Event { event: Text, body: Option<Tree> },
     OfNext(Note),
     /// What a number of the client names.
     Target(u32),
@@ -134,7 +153,8 @@ fn text_at(alloc: Global, told: &Value, key: HostKey) -> Result<Text, Unread>
     Ok(Text::copied(alloc, at(told, key).required_text()?)?)
 }
 
-fn category_named(alloc: Global, name: &str) -> Result<Category, AllocError>
+/// A category of output by its name.
+pub fn category_named(alloc: Global, name: &str) -> Result<Category, AllocError>
     ensures { IfOk result (λ category. category ≡ category_of_name name.now) }
 {
     match name {
@@ -429,7 +449,8 @@ fn question_in(value: &Value) -> Option<Question>
 
 #[tactic(auto, unfolding(crate::specs::Told::asked_in))]
 fn asked_in(said: &Value) -> Result<Said, Unread>
-    ensures { Gives result (asked_of (view said.now)) }
+    ensures gives { Gives result (asked_of (view said.now)) }
+    ensures plain { IfOk result IsPlainSaid }
 {
     let _question = at(said, HostKey::Asked)
         .found
@@ -441,7 +462,8 @@ fn asked_in(said: &Value) -> Result<Said, Unread>
 
 #[tactic(auto, unfolding(crate::specs::Told::happened_in))]
 fn happened_in(alloc: Global, said: &mut Value) -> Result<Said, Unread>
-    ensures { Gives result (happened_of (view said.old)) }
+    ensures gives { Gives result (happened_of (view said.old)) }
+    ensures plain { IfOk result IsPlainSaid }
 {
     let told = told_in(alloc, said)?;
     Ok(Said::Happened(told))
@@ -450,10 +472,38 @@ fn happened_in(alloc: Global, said: &mut Value) -> Result<Said, Unread>
 /// That what the next message asks for is refused, and why.
 #[tactic(auto, unfolding(crate::specs::Told::refusal_in))]
 fn refusal_in(alloc: Global, said: &Value) -> Result<Said, Unread>
-    ensures { Gives result (refusal_of (view said.now)) }
+    ensures gives { Gives result (refusal_of (view said.now)) }
+    ensures plain { IfOk result IsPlainSaid }
 {
     let why = explanation_in(alloc, said, HostKey::Refuses)?;
     Ok(Said::OfNext(Note::Refuses(why)))
+}
+
+/// The body of an event, where there is one.
+fn body_in(alloc: Global, said: &Value) -> Result<Result<Option<Tree>, HostKey>, AllocError>
+    ensures read { IfOk result (λ body. body ≡ optional_at body_of HostKey.Body (view said.now)) }
+    ensures plain { IfOk result (λ body. IfOk body (λ tree. IsTrue (plain_tree tree))) }
+{
+    let Some(found) = at(said, HostKey::Body).found else {
+        return Ok(Ok(None));
+    };
+    let body = Some(Tree::shared(alloc, found.clone()?));
+    if !is_plain_tree(&body) {
+        return Ok(Err(HostKey::Body));
+    }
+    Ok(Ok(body))
+}
+
+/// An event that is told by its name.
+#[tactic(auto, unfolding(crate::specs::Told::event_in))]
+fn event_in(alloc: Global, said: &Value) -> Result<Said, Unread>
+    ensures gives { Gives result (event_of (view said.now)) }
+    ensures plain { IfOk result IsPlainSaid }
+{
+    let event = text_at(alloc, said, HostKey::Event)?;
+    let read = body_in(alloc, said)?;
+    let body = read?;
+    Ok(Said::Event { event, body })
 }
 
 /// Whether something stands at a key.
@@ -464,9 +514,10 @@ fn is_there(said: &Value, key: HostKey) -> bool
 }
 
 /// What is said: a question where there is one, else what is said of the next message, where breakpoints are or that it is
-/// refused, else what happened.
+/// refused, else an event, else what happened.
 fn said_in(alloc: Global, said: &mut Value) -> Result<Said, Unread>
-    ensures { Gives result (said_of (view said.old)) }
+    ensures gives { Gives result (said_of (view said.old)) }
+    ensures plain { IfOk result IsPlainSaid }
 {
     if is_there(said, HostKey::Asked) {
         return asked_in(said);
@@ -477,12 +528,16 @@ fn said_in(alloc: Global, said: &mut Value) -> Result<Said, Unread>
     if is_there(said, HostKey::Refuses) {
         return refusal_in(alloc, said);
     }
+    if is_there(said, HostKey::Event) {
+        return event_in(alloc, said);
+    }
     happened_in(alloc, said)
 }
 
 /// What the JSON text of a host says.
 pub fn read_said(alloc: Global, scratch: &mut Scratch, text: &[u8]) -> Result<Said, Unread>
-    ensures { Tells result text.now }
+    ensures tells { Tells result text.now }
+    ensures plain { IfOk result IsPlainSaid }
 {
     match read_value(alloc, scratch, text) {
         Ok(mut said) => said_in(alloc, &mut said),

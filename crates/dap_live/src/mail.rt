@@ -89,6 +89,21 @@ pub struct Ahead {
     pub refusal: Option<Explanation>,
 }
 
+impl Ahead {
+    ghost use Rattle.std.specs.Prelude.{◌≡◌};
+    ghost use Rattle.dap_live.specs.MailState.{nothing_ahead};
+
+    /// Nothing is said.
+    pub fn none() -> Ahead
+        ensures { result ≡ nothing_ahead }
+    {
+        Ahead {
+            placed: None,
+            refusal: None,
+        }
+    }
+}
+
 /// What the host has to do.
 #[derive(Drop)]
 pub enum HostAct {
@@ -194,10 +209,7 @@ impl Mail {
     {
         Mail {
             coming: None,
-            ahead: Ahead {
-                placed: None,
-                refusal: None,
-            },
+            ahead: Ahead::none(),
             acts: Vec::new(alloc),
             is_to_end: false,
             dropped: None,

@@ -23,7 +23,7 @@ use Rattle.dap_body.specs.declared.body.Body.TheVariants.{Continue, RunInTermina
 use Rattle.dap_body.specs.declared.failure.Failure.{Failure}
 use Rattle.dap_body.specs.declared.failure.Failure.TheVariants.{NotInitialized, BadArguments}
 use Rattle.dap_envelope.specs.Canon.{canon, tree_of, members_of, response_members, event_members}
-use Rattle.dap_message.specs.MessageParts.{failure_response, success_response, event_message, has_fixed_shape, AdapterEvent, initialized, output, stopped, continued, exited, terminated, event_name, event_body, without_more}
+use Rattle.dap_message.specs.MessageParts.{failure_response, success_response, event_message, has_fixed_shape, AdapterEvent, initialized, output, stopped, continued, exited, terminated, named, event_name, event_body, without_more}
 use Rattle.dap_message.specs.Lengths.{is_exit_code, IsWithin, FailuresAreShort, FixedResponsesAreShort, EventsAreShort, WhatIsAroundIsShort, TheUsualOfferFits}
 use Rattle.dap_envelope.specs.Refusals.{max_command}
 use Rattle.dap_envelope.specs.declared.message.Message.{Message}
@@ -144,6 +144,7 @@ event_body_size (stopped reason thread more) h = omega (arith, quoted_le reason,
 event_body_size (continued thread) h = omega (arith, int_size thread h)
 event_body_size (exited code) h = omega (arith, code_size code h)
 event_body_size terminated h = omega arith
+event_body_size (named name body) h = absurd h
 
 pub events_are_short : EventsAreShort
 events_are_short seq e s h = omega (arith, length-canon (event_message seq (event_name e) (event_body (without_more e))), event_size seq (event_name e) (event_body (without_more e)) s, event_body_size e h)

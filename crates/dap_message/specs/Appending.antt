@@ -28,6 +28,10 @@ AddsAnswer seq request_seq command body old new = AddsText (success_response seq
 abbrev pub AddsEvent : {A : Type 0} → ℕ → List ℕ → Option EventBody → Vec ℕ A → Vec ℕ A → Type 0
 AddsEvent seq event body old new = AddsText (event_message seq event (event_data_in body)) old new
 
+-- an event that is told by its name, with a tree as its body
+abbrev pub AddsNamedEvent : {A : Type 0} → ℕ → List ℕ → Option Data → Vec ℕ A → Vec ℕ A → Type 0
+AddsNamedEvent seq event body old new = AddsText (event_message seq event body) old new
+
 abbrev pub AddsRequest : {A : Type 0} → ℕ → List ℕ → Option Data → Vec ℕ A → Vec ℕ A → Type 0
 AddsRequest seq command arguments old new = AddsText (request_message seq command arguments) old new
 
@@ -50,6 +54,9 @@ AnswerReadsBack seq request_seq command body =
 
 abbrev pub EventReadsBack : ℕ → List ℕ → Option EventBody → Type 0
 EventReadsBack seq event body = seq ≤ max_seq → CanonIsRead (event_message seq event (event_data_in body))
+
+abbrev pub NamedEventReadsBack : ℕ → List ℕ → Option Data → Type 0
+NamedEventReadsBack seq event body = seq ≤ max_seq → CanonIsRead (event_message seq event body)
 
 abbrev pub RequestReadsBack : ℕ → List ℕ → Option Data → Type 0
 RequestReadsBack seq command arguments = seq ≤ max_seq → length command ≤ max_command → CanonIsRead (request_message seq command arguments)

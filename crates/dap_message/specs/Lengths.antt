@@ -13,7 +13,7 @@ use Rattle.dap_body.specs.Body.{data_in}
 use Rattle.dap_body.specs.ResponseBody.{offer_body}
 use Rattle.dap_body.specs.declared.body.Body.{Body}
 use Rattle.dap_body.specs.declared.failure.Failure.{Failure}
-use Rattle.dap_message.specs.MessageParts.{failure_response, success_response, event_message, has_fixed_shape, AdapterEvent, initialized, output, stopped, continued, exited, terminated, event_name, event_body, without_more}
+use Rattle.dap_message.specs.MessageParts.{failure_response, success_response, event_message, has_fixed_shape, AdapterEvent, initialized, output, stopped, continued, exited, terminated, named, event_name, event_body, without_more}
 use Rattle.dap_envelope.specs.Canon.{canon}
 use Rattle.dap_envelope.specs.Refusals.{max_command}
 use Rattle.dap_envelope.specs.declared.message.Message.{Message}
@@ -22,7 +22,7 @@ use Rattle.dap_envelope.specs.declared.message.Message.{Message}
 abbrev pub is_exit_code : ℤ → Bool
 is_exit_code z = int_le (negsuc 2147483647) z && int_le z (pos 2147483647)
 
--- what a debuggee tells at most: a category that is a name, a text of 128 bytes, a reason of 64. Of what it says beside them nothing is said.
+-- what a debuggee tells at most: a category that is a name, a text of 128 bytes, a reason of 64. Of what it says beside them nothing is said. An event that is told by its name is none of its.
 abbrev pub IsWithin : AdapterEvent → Type 0
 IsWithin initialized = ⊤
 IsWithin (output category text more) = IsTrue (is_name category) × (length text ≤ 128)
@@ -30,6 +30,7 @@ IsWithin (stopped reason thread more) = (length reason ≤ 64) × IsTrue (is_int
 IsWithin (continued thread) = IsTrue (is_int thread)
 IsWithin (exited code) = IsTrue (is_exit_code code)
 IsWithin terminated = ⊤
+IsWithin (named name body) = ⊥
 
 -- ---- what fits
 

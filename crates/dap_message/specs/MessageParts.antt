@@ -49,6 +49,8 @@ pub data AdapterEvent : Type 0 where
   continued : ℤ → AdapterEvent
   exited : ℤ → AdapterEvent
   terminated : AdapterEvent
+  -- one that whoever holds the adapter tells by its name
+  named : List ℕ → Option Data → AdapterEvent
 
 abbrev pub event_name : AdapterEvent → List ℕ
 event_name initialized = codes "initialized"
@@ -57,6 +59,7 @@ event_name (stopped reason thread more) = codes "stopped"
 event_name (continued thread) = codes "continued"
 event_name (exited code) = codes "exited"
 event_name terminated = codes "terminated"
+event_name (named name body) = name
 
 abbrev pub event_body : AdapterEvent → Option Data
 event_body initialized = None
@@ -65,6 +68,7 @@ event_body (stopped reason thread more) = Some (stopped_body reason thread more)
 event_body (continued thread) = Some (continued_body thread)
 event_body (exited code) = Some (exited_body code)
 event_body terminated = None
+event_body (named name body) = body
 
 -- the event with no more beside it than its own members
 abbrev pub without_more : AdapterEvent → AdapterEvent

@@ -13,7 +13,7 @@ ghost use Rattle.dap_body.specs.Failure.{explained_body, failure_body};
 ghost use Rattle.dap_message.specs.PrivateAnswering.{with_body, with_arguments, end_members, response_end};
 ghost use Rattle.dap_envelope.specs.Canon.{canon, request_members, event_members, response_members};
 ghost use Rattle.dap_envelope.specs.SoundMessage.{IsSoundTree};
-ghost use Rattle.dap_message.specs.Appending.{AddsFailure, AddsExplained, AddsAnswer, AddsEvent, AddsRequest, FailureReadsBack, ExplainedReadsBack, AnswerReadsBack, EventReadsBack, RequestReadsBack};
+ghost use Rattle.dap_message.specs.Appending.{AddsFailure, AddsExplained, AddsAnswer, AddsEvent, AddsNamedEvent, AddsRequest, FailureReadsBack, ExplainedReadsBack, AnswerReadsBack, EventReadsBack, NamedEventReadsBack, RequestReadsBack};
 
 use dap_body::{
     Body, EventBody, Failure, append_body, append_event_body, append_explained_body,
@@ -83,6 +83,24 @@ fn open_event(
     };
     out.extend_from_slice(b"{\"body\":")?;
     append_event_body(alloc, out, body)?;
+    out.push(b',')?;
+    Ok(())
+}
+
+/// The same of a body that is a tree.
+fn open_tree(alloc: Global, out: &mut Vec<u8>, body: &Option<Tree>) -> Result<(), AllocError>
+    requires { IsTrue (is_plain_tree body.now) }
+    ensures ok { OnOk result (out.new.items ≡ out.old.items ++ with_body body.now) }
+    ensures sound { OnOk result (IsSoundTree body.now) }
+    ensures front { take (length out.old.items) out.new.items ≡ out.old.items }
+{
+    out.reserve(ROOM)?;
+    let Some(body) = body else {
+        out.push(b'{')?;
+        return Ok(());
+    };
+    out.extend_from_slice(b"{\"body\":")?;
+    out.extend_from_slice(&tree_text(alloc, body)?)?;
     out.push(b',')?;
     Ok(())
 }
@@ -405,6 +423,26 @@ pub fn append_event(
     written_is_read_again();
     let start = out.len();
     let opened = open_event(alloc, out, body);
+    close(alloc, out, start, opened, End::Event { seq, event })
+}
+
+/// Appends the text of an event of any name, with a tree as its body.
+pub fn append_named_event(
+    alloc: Global,
+    out: &mut Vec<u8>,
+    seq: u64,
+    event: &str,
+    body: &Option<Tree>,
+) -> Result<(), AllocError>
+    requires { IsTrue (is_plain_tree body.now) }
+    ensures canon { OnOk result (AddsNamedEvent seq event.now body.now out.old out.new) }
+    ensures reads_back { OnOk result (NamedEventReadsBack seq event.now body.now) }
+    ensures err { OnErr result (out.new.items ≡ out.old.items) }
+{
+    // A law for the proof: what is written is read again.
+    written_is_read_again();
+    let start = out.len();
+    let opened = open_tree(alloc, out, body);
     close(alloc, out, start, opened, End::Event { seq, event })
 }
 

@@ -12,7 +12,8 @@ pub mod laws;
 mod offers;
 
 pub use answering::{
-    append_answer, append_event, append_explained, append_failure, append_request,
+    append_answer, append_event, append_explained, append_failure, append_named_event,
+    append_request,
 };
 pub use dap_body::{
     Body, Breakpoint, EventBody, Failure, Scope, Source, StackFrame, Thread, Variable,
@@ -28,8 +29,8 @@ pub use dap_call::{
 };
 pub use dap_envelope::{
     BodyFault, BodyRefusal, Event, Heading, HeadingKind, Kind, MAX_COMMAND, Message, Noted,
-    Response, heading_of, none_noted, note_member, read_heading, read_heading_and_references,
-    read_message, read_message_with, write_message,
+    Response, heading_of, is_plain_tree, none_noted, note_member, read_heading,
+    read_heading_and_references, read_message, read_message_with, write_message,
 };
 pub use dap_json::object_reader::Scratch;
 pub use dap_json::{List, Text, Tree};

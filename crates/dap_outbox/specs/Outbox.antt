@@ -1,7 +1,8 @@
 -- What a call is about to write, behind what its buffer had before.
 use Rattle.std.specs.Prelude.{◌≡◌, ℕ, ◌+◌, ◌≤◌, List, [], ◌∷◌, ◌++◌, length, take, drop, nat_le, Bool, IsTrue, Option, Some, None}
+use Rattle.serde_json.specs.Data.{Data}
 use Rattle.dap_json.specs.Field.{max_seq}
-use Rattle.dap_message.specs.MessageParts.{AdapterEvent, initialized, output, stopped, continued, exited, terminated, success_response, explained_response}
+use Rattle.dap_message.specs.MessageParts.{AdapterEvent, initialized, output, stopped, continued, exited, terminated, named, success_response, explained_response}
 use Rattle.dap_body.specs.Body.{data_in}
 use Rattle.dap_message.specs.Lengths.{max_fixed, event_within}
 use Rattle.dap_envelope.specs.Canon.{canon}
@@ -99,6 +100,10 @@ AnswersIfFits most old new request given fits = IsTrue fits → AppendsDraft mos
 -- if an event with all that is said beside it has, it is told
 abbrev pub EmitsIfFits : ℕ → OutboxState → OutboxState → Event → Bool → Type 0
 EmitsIfFits most old new event fits = IsTrue fits → AppendsDraft most old new (emit (event_of event))
+
+-- an event of any name, with a tree as its body, if its message has
+abbrev pub EmitsNamedIfFits : ℕ → OutboxState → OutboxState → List ℕ → Option Data → Bool → Type 0
+EmitsNamedIfFits most old new event given fits = IsTrue fits → AppendsDraft most old new (emit (named event given))
 
 -- whether a failure with why the debuggee refused, and with this own number, has at most so many bytes
 abbrev pub explanation_fits_as : ℕ → ℕ → Request → Explanation → Bool

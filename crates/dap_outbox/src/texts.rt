@@ -7,7 +7,7 @@ ghost use Rattle.dap_outbox.specs.InRange.{IsRequestInRange};
 ghost use Rattle.dap_outbox.specs.Outbox.{answer_of, event_of, shape_of};
 ghost use Rattle.dap_json.specs.Field.{max_seq};
 ghost use Rattle.dap_json.specs.Writable.{is_plain_tree};
-ghost use Rattle.dap_message.specs.MessageParts.{event_name, event_body};
+ghost use Rattle.dap_message.specs.MessageParts.{event_name, event_body, named};
 ghost use Rattle.dap_message.specs.Appending.{CanonIsRead};
 ghost use Rattle.dap_message.specs.Lengths.{max_fixed};
 ghost use Rattle.dap_envelope.specs.ReadBack.{ReadsBack};
@@ -18,7 +18,10 @@ use dap_call::{RUN_IN_TERMINAL, TerminalCall, write_terminal};
 use dap_debuggee::Explanation;
 use dap_json::{List, Text, Tree};
 use dap_message::laws::fixed_messages_are_short;
-use dap_message::{append_answer, append_event, append_explained, append_failure, append_request};
+use dap_message::{
+    append_answer, append_event, append_explained, append_failure, append_named_event,
+    append_request,
+};
 use dap_tables::Entry;
 use std::alloc::{AllocError, Global};
 
@@ -125,6 +128,22 @@ pub(crate) fn append_told(
     ensures err { OnErr result (out.new.items ≡ out.old.items) }
 {
     append_event(alloc, out, seq, event_name(event), event_body(event))
+}
+
+/// Appends the text of an event of any name, or changes nothing.
+pub(crate) fn append_named(
+    alloc: Global,
+    out: &mut Vec<u8>,
+    seq: u64,
+    event: &str,
+    body: &Option<Tree>,
+) -> Result<(), AllocError>
+    requires { IsTrue (is_plain_tree body.now) }
+    ensures canon { OnOk result (out.new.items ≡ out.old.items ++ canon (message_of seq (emit (named event.now body.now)))) }
+    ensures reads_back { OnOk result (seq ≤ max_seq → CanonIsRead (message_of seq (emit (named event.now body.now)))) }
+    ensures err { OnErr result (out.new.items ≡ out.old.items) }
+{
+    append_named_event(alloc, out, seq, event, body)
 }
 
 /// What the client's terminal is to run.

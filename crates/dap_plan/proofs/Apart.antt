@@ -6,14 +6,15 @@ use Rattle.dap_plan.specs.Plan.{Made}
 use Rattle.dap_plan.specs.ReferenceLaws.{KeepsApart, IsStep, Runs, ReferencesAreApart}
 use Rattle.dap_plan.specs.Session.{Session}
 use Rattle.dap_plan.proofs.Deliveries.{delivery-is}
-use Rattle.dap_plan.proofs.Happenings.{poll-is}
+use Rattle.dap_plan.proofs.Happenings.{poll-is, emit-is}
 use Rattle.dap_query.proofs.Interned.{dead}
 use Rattle.dap_plan.proofs.Turns.{turn-is}
 
 step-apart : (s : Session) (made : Made) → IsStep s made → KeepsApart s made
 step-apart s made (inl t) = (delivery-is s t.message t.plan made t.is t.can).sound.moves.apart
 step-apart s made (inr (inl t)) = ((turn-is t.view s t.plan t.is).row.outcomes made t.can).sound.moves.apart
-step-apart s made (inr (inr t)) = (poll-is s made t).moves.apart
+step-apart s made (inr (inr (inl t))) = (poll-is s made t).moves.apart
+step-apart s made (inr (inr (inr t))) = (emit-is t.name t.body s made t.can).moves.apart
 
 runs-base : (later : List Made) (s new : Session) → Runs later s new → s.references.base ≤ new.references.base
 runs-base [] s new r = let same = ap (λ (x : Session). x.references.base) r in omega arith
@@ -34,5 +35,6 @@ references_are_apart = record {
   take = λ s m plan made e is. (delivery-is s m plan made e is).sound.moves.apart;
   turn = λ view s plan made e is. ((turn-is view s plan e).row.outcomes made is).sound.moves.apart;
   poll = λ s made is. (poll-is s made is).moves.apart;
+  emit = λ name body s made is. (emit-is name body s made is).moves.apart;
   stays_dead = stays_dead;
 }

@@ -1,5 +1,5 @@
 -- What happened to the debuggee: each telling of it is sound.
-use Rattle.std.proofs.Common.{◌≡◌, ◌+◌, [], Bool, true, false, None, length, refl, sym, subst, arith}
+use Rattle.std.proofs.Common.{◌≡◌, ℕ, ◌+◌, List, [], Bool, true, false, Option, None, length, refl, sym, subst, arith}
 use Rattle.std.specs.Prelude.{if◌then◌else◌}
 use Rattle.dap_history.specs.Requests.{asks}
 use Rattle.dap_debuggee.specs.Shown.{to_poll, Reply, done, refused, happened}
@@ -9,6 +9,8 @@ use Rattle.dap_decision.specs.declared.phase.Phase.{Phase}
 use Rattle.dap_decision.specs.declared.phase.Phase.TheVariants.{Asked, Ended}
 use Rattle.dap_plan.specs.Laws.{CanMake}
 use Rattle.dap_plan.specs.Plan.{Made, at_once, asking, no_change}
+use Rattle.serde_json.specs.Data.{Data}
+use Rattle.dap_plan.specs.Emitting.{after_emitting, emits}
 use Rattle.dap_plan.specs.Polling.{after_happening, after_poll_reply, polls, has_debuggee}
 use Rattle.dap_plan.specs.Session.{Session}
 use Rattle.dap_plan.proofs.Kept.{Walked, walked-none, walked-append, walked-event}
@@ -49,3 +51,9 @@ polls-sound false s made h is = subst (λ (x : Made). IsSound (Unit {0}) s [] No
 
 pub poll-is : (s : Session) (made : Made) → CanMake (polls s) made → IsSound (Unit {0}) s [] None made
 poll-is s made is = polls-sound (has_debuggee s.phase) s made refl is
+
+-- an event that is told by its name
+pub emit-is : (name : List ℕ) (body : Option Data) (s : Session) (made : Made) → CanMake (emits name body s) made → IsSound (Unit {0}) s [] None made
+emit-is name body s made is =
+    let sound = told-sound s (after_emitting name body s) (is-plain s _ refl refl refl) (refl, refl, tt) refl (walked-event _ (asks s.kept)) (asks-nothing s _ refl tt (λ suits. suits)) in
+    subst (λ (x : Made). IsSound (Unit {0}) s [] None x) (sym is) sound

@@ -109,4 +109,5 @@ each_step_keeps_state = record {
   take = λ first s m plan e. taken-keeps first s m.seq m.kind plan e;
   turn = λ first view s plan e. (turn-is view s plan e).row.keeps first;
   poll = λ first s. polled-keeps first (has_debuggee s.phase) s;
+  emit = λ first name body s before h. h;
 }

@@ -1,5 +1,5 @@
 -- What is true of a session stays true.
-use Rattle.std.proofs.Common.{◌≡◌, ◌≤◌, List, [], ◌++◌, Option, Some, None, Ok, length, refl, ap, arith}
+use Rattle.std.proofs.Common.{◌≡◌, ℕ, ◌≤◌, List, [], ◌++◌, Option, Some, None, Ok, length, refl, ap, arith}
 use Rattle.std.proofs.lemmas.List.{append-nil}
 use Rattle.dap_frame.specs.Settings.{Settings}
 use Rattle.dap_command.specs.declared.offer.Offer.{Offer}
@@ -12,12 +12,14 @@ use Rattle.dap_plan.specs.Handling.{turns}
 use Rattle.dap_plan.specs.Laws.{CanMake}
 use Rattle.dap_plan.specs.Plan.{Made, Plan}
 use Rattle.dap_plan.specs.Polling.{polls}
+use Rattle.dap_plan.specs.Emitting.{emits}
+use Rattle.serde_json.specs.Data.{Data}
 use Rattle.dap_plan.specs.Session.{Session, IsOrderly, opened_session}
 use Rattle.dap_plan.specs.Taking.{takes}
 use Rattle.dap_plan.specs.Within.{IsWithin, EachStepStaysWithin}
 use Rattle.dap_plan.proofs.Deliveries.{delivery-is, delivery-exact}
 use Rattle.dap_plan.proofs.Distinct.{AreDistinct, asks-distinct, distinct-asks, distinct-open, length-open, length-asks}
-use Rattle.dap_plan.proofs.Happenings.{poll-is}
+use Rattle.dap_plan.proofs.Happenings.{poll-is, emit-is}
 use Rattle.dap_plan.proofs.Moves.{Moves}
 use Rattle.dap_plan.proofs.Outcomes.{Stays}
 use Rattle.dap_plan.proofs.Turns.{turn-is}
@@ -74,6 +76,9 @@ turn-stays view s plan made i e is =
 poll-stays : (s : Session) (made : Made) → IsWithin s → CanMake (polls s) made → made.after.used ≤ s.limits.seq → IsWithin made.after
 poll-stays s made i is u = let p = poll-is s made is in none-came s made i p.moves p.stays (p.well tt) u
 
+emit-stays : (name : List ℕ) (body : Option Data) (s : Session) (made : Made) → IsWithin s → CanMake (emits name body s) made → made.after.used ≤ s.limits.seq → IsWithin made.after
+emit-stays name body s made i is u = let p = emit-is name body s made is in none-came s made i p.moves p.stays (p.well tt) u
+
 opened-within : (limits : Settings) (offers : Offer) → IsWithin (opened_session limits offers)
 opened-within limits offers = record { distinct = tt; kept = omega arith; asked = refl; used = omega arith; references = omega arith; numbers = omega arith; breakpoints = omega arith; ids = omega arith }
 
@@ -83,12 +88,15 @@ each_step_stays_within = record {
   take = take-stays;
   turn = turn-stays;
   poll = poll-stays;
+  emit = emit-stays;
   take_keeps_limits = λ s m plan made e is. (delivery-is s m plan made e is).sound.moves.limits;
   turn_keeps_limits = λ view s plan made e is. ((turn-is view s plan e).row.outcomes made is).sound.moves.limits;
   poll_keeps_limits = λ s made is. (poll-is s made is).moves.limits;
+  emit_keeps_limits = λ name body s made is. (emit-is name body s made is).moves.limits;
   take_keeps_offers = λ s m plan made e is. (delivery-is s m plan made e is).sound.moves.offers;
   turn_keeps_offers = λ view s plan made e is. ((turn-is view s plan e).row.outcomes made is).sound.moves.offers;
   poll_keeps_offers = λ s made is. (poll-is s made is).moves.offers;
+  emit_keeps_offers = λ name body s made is. (emit-is name body s made is).moves.offers;
   due_is_exact = λ view s plan made i e is. ((turn-is view s plan e).row.outcomes made is).count;
   take_due_is_exact = λ s m plan made i e is. delivery-exact s m plan e made is;
 }

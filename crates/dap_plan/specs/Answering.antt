@@ -11,6 +11,8 @@ use Rattle.dap_plan.specs.Laws.{CanMake}
 use Rattle.dap_plan.specs.Plan.{Made, Plan, entries_of}
 use Rattle.dap_outbox.specs.Draft.{Draft, reply, emit, ask, requests_in}
 use Rattle.dap_plan.specs.Polling.{polls}
+use Rattle.dap_plan.specs.Emitting.{emits}
+use Rattle.serde_json.specs.Data.{Data}
 use Rattle.dap_plan.specs.References.{references_after}
 use Rattle.dap_plan.specs.Session.{Session, own_requests, to_handle, IsOrderly}
 use Rattle.dap_plan.specs.Taking.{takes}
@@ -49,10 +51,11 @@ pub record GoesWell (s : Session) (came : List Asked) (response : Option Answere
 
 -- ---- the law
 
--- so goes each message that is delivered, each request that is handled and each poll, whatever the debuggee replies
+-- so goes each message that is delivered, each request that is handled, each poll and each event that is told by its name, whatever the debuggee replies
 pub record EachStepGoesWell : Type 0 where
   pub take : (s : Session) (m : Message) (plan : Plan) (made : Made) → IsOrderly s → takes m s ≡ Ok plan → CanMake plan made → GoesWell s (option_to_list (request_as m.seq m.kind)) (response_as m.kind) made
   pub turn : (view : Shown) (s : Session) (plan : Plan) (made : Made) → IsOrderly s → turns view s ≡ Ok (Some plan) → CanMake plan made → GoesWell s [] None made
   pub poll : (s : Session) (made : Made) → CanMake (polls s) made → GoesWell s [] None made
+  pub emit : (name : List ℕ) (body : Option Data) (s : Session) (made : Made) → CanMake (emits name body s) made → GoesWell s [] None made
   -- fewer requests are left to handle after a turn
   pub fewer : (view : Shown) (s : Session) (plan : Plan) (made : Made) → HasDistinctSeqs s.kept → turns view s ≡ Ok (Some plan) → CanMake plan made → to_handle made.after.kept < to_handle s.kept

@@ -15,6 +15,8 @@ use Rattle.dap_plan.specs.Laws.{CanMake}
 use Rattle.dap_plan.specs.Plan.{Made, Plan}
 use Rattle.dap_outbox.specs.Draft.{success, failure, explained, Draft, reply, emit, ask}
 use Rattle.dap_plan.specs.Polling.{polls}
+use Rattle.dap_plan.specs.Emitting.{emits}
+use Rattle.serde_json.specs.Data.{Data}
 use Rattle.dap_plan.specs.Session.{Session}
 use Rattle.dap_plan.specs.Taking.{takes}
 
@@ -46,3 +48,4 @@ pub record EachAnswerGivesLive : Type 0 where
   pub take : (s : Session) (m : Message) (plan : Plan) (made : Made) → takes m s ≡ Ok plan → CanMake plan made → AllGiveLive made.after.references made.drafts
   pub turn : (view : Shown) (s : Session) (plan : Plan) (made : Made) → turns view s ≡ Ok (Some plan) → CanMake plan made → AllGiveLive made.after.references made.drafts
   pub poll : (s : Session) (made : Made) → CanMake (polls s) made → AllGiveLive made.after.references made.drafts
+  pub emit : (name : List ℕ) (body : Option Data) (s : Session) (made : Made) → CanMake (emits name body s) made → AllGiveLive made.after.references made.drafts

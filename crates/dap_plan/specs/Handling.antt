@@ -6,7 +6,7 @@ use Rattle.serde_json.specs.Data.{Data}
 use Rattle.dap_json.specs.Field.{text_at}
 use Rattle.dap_call.specs.Argument.{Read}
 use Rattle.dap_envelope.specs.Canon.{canon}
-use Rattle.dap_message.specs.MessageParts.{initialized, terminated, success_response, explained_response}
+use Rattle.dap_message.specs.MessageParts.{initialized, terminated, success_response}
 use Rattle.dap_body.specs.ResponseBody.{continue_body, set_breakpoints_body, set_variable_body, offer_body}
 use Rattle.dap_body.specs.declared.response.Breakpoint.{Breakpoint as BreakpointBody}
 use Rattle.dap_call.specs.declared.call.Call.{Call}
@@ -36,6 +36,7 @@ use Rattle.dap_plan.specs.Breakpoints.{are_too_many}
 use Rattle.dap_tables.specs.Breakpoints.{SetBreakpoints, breakpoints_with}
 use Rattle.dap_decision.specs.Failures.{command_of, call_in, thread_of, refusal_in}
 use Rattle.dap_plan.specs.Plan.{Made, Plan, at_once, asking, no_change, after_answering, plan_within_numbers}
+use Rattle.dap_outbox.specs.Outbox.{explanation_fits_as}
 use Rattle.dap_outbox.specs.Draft.{Answer, success, failure, explained, plain_success, Draft, reply, emit, ask}
 use Rattle.dap_tables.specs.References.{without_references}
 use Rattle.dap_plan.specs.Session.{Session, oldest, query_of}
@@ -63,12 +64,9 @@ after_initialize s r asked = record {
 abbrev pub fits : Session → Entry → Option Data → Bool
 fits s r body = nat_le (length (canon (success_response (s.used + 1) r.seq r.command body))) s.limits.body
 
--- so has the failure with this reason, where it has this own number
-abbrev pub fits_explained_as : ℕ → Session → Entry → Explanation → Bool
-fits_explained_as seq s r told = nat_le (length (canon (explained_response seq r.seq r.command told.show_user told.text))) s.limits.body
-
+-- so has the failure with this reason
 abbrev pub fits_explained : Session → Entry → Explanation → Bool
-fits_explained s r told = fits_explained_as (s.used + 1) s r told
+fits_explained s r told = explanation_fits_as (s.used + 1) s.limits.body r told
 
 abbrev pub explained_if : Bool → Explanation → Answer
 explained_if fits told = if fits then explained told else failure Debuggee
@@ -81,7 +79,7 @@ failing s r f _ = failure f
 -- The same of what is parked, which is answered alike: the reason is given where it fits in the answer to each of them, whatever
 -- own number that has.
 abbrev pub fits_explained_each : Session → List Kept → Explanation → Bool
-fits_explained_each s parked told = list_all (λ k. fits_explained_as s.limits.seq s k.entry told) parked
+fits_explained_each s parked told = list_all (λ k. explanation_fits_as s.limits.seq s.limits.body k.entry told) parked
 
 abbrev pub failing_each : Session → List Kept → Option Explanation → Answer
 failing_each s parked None = failure Debuggee

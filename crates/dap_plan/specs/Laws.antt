@@ -1,5 +1,6 @@
 -- Each step of an adapter goes on as its history does, whatever its debuggee replies.
-use Rattle.std.specs.Prelude.{◌≡◌, ℕ, List, [], ◌∷◌, ◌++◌, Some, Ok}
+use Rattle.std.specs.Prelude.{◌≡◌, ℕ, List, [], ◌∷◌, ◌++◌, Option, Some, Ok}
+use Rattle.serde_json.specs.Data.{Data}
 use Rattle.dap_history.specs.History.{Entry, In, ins_of, outs_of}
 use Rattle.dap_envelope.specs.declared.message.Message.{Message}
 use Rattle.dap_debuggee.specs.Shown.{Shown, Reply}
@@ -8,6 +9,7 @@ use Rattle.dap_plan.specs.Handling.{turns}
 use Rattle.dap_plan.specs.Plan.{Made, Plan, at_once, asking, entries_of}
 use Rattle.dap_outbox.specs.Draft.{numbered_messages}
 use Rattle.dap_plan.specs.Polling.{polls}
+use Rattle.dap_plan.specs.Emitting.{emits}
 use Rattle.dap_plan.specs.Session.{Session, IsOrderly}
 use Rattle.dap_plan.specs.Follows.{Follows}
 use Rattle.dap_plan.specs.Taking.{takes}
@@ -31,4 +33,6 @@ pub record EachStepGoesOn : Type 0 where
   pub turn : (view : Shown) (s : Session) (plan : Plan) (made : Made) (h : List Entry) → IsOrderly s → turns view s ≡ Ok (Some plan) → CanMake plan made
       → Follows s h → Follows made.after (h ++ entries_of s.used made)
   pub poll : (s : Session) (made : Made) (h : List Entry) → CanMake (polls s) made
+      → Follows s h → Follows made.after (h ++ entries_of s.used made)
+  pub emit : (name : List ℕ) (body : Option Data) (s : Session) (made : Made) (h : List Entry) → CanMake (emits name body s) made
       → Follows s h → Follows made.after (h ++ entries_of s.used made)

@@ -6,6 +6,7 @@ pub mod Carried
 pub mod Handling
 pub mod Taking
 pub mod Polling
+pub mod Emitting
 pub mod Follows
 pub mod Laws
 pub mod Within

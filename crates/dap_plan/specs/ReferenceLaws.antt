@@ -1,6 +1,8 @@
 -- References that live at different times stay apart.
 -- Overview, "Lifetime of Objects References".
-use Rattle.std.specs.Prelude.{◌≡◌, ◌⊎◌, ℕ, ◌≤◌, List, [], ◌∷◌, true, false, Some, None, Ok}
+use Rattle.std.specs.Prelude.{◌≡◌, ◌⊎◌, ℕ, ◌≤◌, List, [], ◌∷◌, true, false, Option, Some, None, Ok}
+use Rattle.serde_json.specs.Data.{Data}
+use Rattle.dap_plan.specs.Emitting.{emits}
 use Rattle.dap_tables.specs.declared.target.Target.{Target}
 use Rattle.dap_envelope.specs.declared.message.Message.{Message}
 use Rattle.dap_debuggee.specs.Shown.{Shown}
@@ -35,9 +37,14 @@ pub record IsTurned (s : Session) (made : Made) : Type 0 where
   pub is : turns view s ≡ Ok (Some plan)
   pub can : CanMake plan made
 
--- a message was delivered, a request handled, or the debuggee asked what happened
+pub record IsEmitted (s : Session) (made : Made) : Type 0 where
+  pub name : List ℕ
+  pub body : Option Data
+  pub can : CanMake (emits name body s) made
+
+-- a message was delivered, a request handled, the debuggee asked what happened, or an event told by its name
 abbrev pub IsStep : Session → Made → Type 0
-IsStep s made = IsTaken s made ⊎ (IsTurned s made ⊎ CanMake (polls s) made)
+IsStep s made = IsTaken s made ⊎ (IsTurned s made ⊎ (CanMake (polls s) made ⊎ IsEmitted s made))
 
 abbrev pub Runs : List Made → Session → Session → Type 0
 Runs [] s new = new ≡ s
@@ -51,5 +58,6 @@ pub record ReferencesAreApart : Type 0 where
   pub take : (s : Session) (m : Message) (plan : Plan) (made : Made) → takes m s ≡ Ok plan → CanMake plan made → KeepsApart s made
   pub turn : (view : Shown) (s : Session) (plan : Plan) (made : Made) → turns view s ≡ Ok (Some plan) → CanMake plan made → KeepsApart s made
   pub poll : (s : Session) (made : Made) → CanMake (polls s) made → KeepsApart s made
+  pub emit : (name : List ℕ) (body : Option Data) (s : Session) (made : Made) → CanMake (emits name body s) made → KeepsApart s made
   -- a number that was live before all died names nothing ever after, whatever steps come
   pub stays_dead : (s new : Session) (made : Made) (later : List Made) (n : ℕ) (t : Target) → IsStep s made → made.drops ≡ true → target_of s.references n ≡ Some t → Runs later made.after new → target_of new.references n ≡ None

@@ -1,6 +1,7 @@
 -- The phase of an adapter is the state of its debuggee.
 -- The phases and the states are this profile's choice.
-use Rattle.std.specs.Prelude.{◌≡◌, ◌⊎◌, IsTrue, Some, Ok}
+use Rattle.std.specs.Prelude.{◌≡◌, ◌⊎◌, ℕ, List, IsTrue, Option, Some, Ok}
+use Rattle.serde_json.specs.Data.{Data}
 use Rattle.dap_envelope.specs.declared.message.Message.{Message}
 use Rattle.dap_debuggee.specs.Laws.{state_after, may_answer}
 use Rattle.dap_debuggee.specs.Shown.{Shown, Reply}
@@ -11,6 +12,7 @@ use Rattle.dap_decision.specs.declared.phase.Phase.TheVariants.{Running, Stopped
 use Rattle.dap_plan.specs.Handling.{turns}
 use Rattle.dap_plan.specs.Plan.{Plan, at_once, asking}
 use Rattle.dap_plan.specs.Polling.{polls}
+use Rattle.dap_plan.specs.Emitting.{emits}
 use Rattle.dap_plan.specs.Session.{Session}
 use Rattle.dap_plan.specs.Taking.{takes}
 
@@ -31,3 +33,4 @@ pub record EachStepKeepsState : Type 0 where
   pub take : (first : State) (s : Session) (m : Message) (plan : Plan) → takes m s ≡ Ok plan → KeepsState first s plan
   pub turn : (first : State) (view : Shown) (s : Session) (plan : Plan) → turns view s ≡ Ok (Some plan) → KeepsState first s plan
   pub poll : (first : State) (s : Session) → KeepsState first s (polls s)
+  pub emit : (first : State) (name : List ℕ) (body : Option Data) (s : Session) → KeepsState first s (emits name body s)

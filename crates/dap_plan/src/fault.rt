@@ -1,4 +1,4 @@
-//! Why an adapter is closed.
+//! Why an adapter is closed, and why an event is not told.
 
 use dap_envelope::BodyRefusal;
 use dap_frame::FrameFault;
@@ -33,5 +33,34 @@ impl From<AllocError> for AdapterFault {
 
     fn from(_: AllocError) -> Self {
         AdapterFault::OutOfMemory
+    }
+}
+
+/// Why an event is not told by its name: the first of these that holds, in this order. Nothing changes then.
+#[derive(Clone, Copy, Debug, PartialEq, Eq)]
+pub enum EmitFault {
+    /// The adapter is closed by a fault.
+    Closed,
+    /// `initialize` is not answered yet, or `disconnect` is.
+    WrongPhase,
+    /// It says what a client may do next. The adapter tells `initialized`, `stopped`, `continued`, `exited` and `terminated` by
+    /// itself, where they are true, and `capabilities` never.
+    Reserved,
+    /// The body would be longer than the limit.
+    TooLarge,
+    /// No own sequence number is left.
+    SeqExhausted,
+    /// Memory was refused.
+    OutOfMemory,
+}
+
+impl From<AllocError> for EmitFault {
+    ghost use Rattle.std.specs.Prelude.{◌≡◌};
+    ghost use Rattle.dap_plan.specs.declared.fault.EmitFault.{EmitFault};
+
+    ghost from_gives = { λ _ fault. fault ≡ EmitFault.OutOfMemory };
+
+    fn from(_: AllocError) -> Self {
+        EmitFault::OutOfMemory
     }
 }

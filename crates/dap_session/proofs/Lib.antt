@@ -8,3 +8,4 @@ pub mod Limited
 pub mod TakingRequests
 pub mod Disconnects
 pub mod Deciding
+pub mod EmitFaults

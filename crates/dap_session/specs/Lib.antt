@@ -1,3 +1,4 @@
 pub mod PrivateQuerying
 pub mod SessionCalls
 pub mod PrivateReplies
+pub mod PrivateEmitting

@@ -9,6 +9,7 @@ mod asking;
 mod changing;
 mod disconnecting;
 mod effects;
+mod emitting;
 mod explaining;
 mod handling;
 mod offers;
@@ -20,7 +21,7 @@ mod starting;
 mod taking;
 
 pub use dap_decision::Phase;
-pub use dap_plan::{AdapterFault, laws};
+pub use dap_plan::{AdapterFault, EmitFault, laws};
 pub use dap_query::Options;
 pub use offers::{offers_fit, usual_offers};
 pub use session::Session;

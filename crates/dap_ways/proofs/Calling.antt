@@ -2,7 +2,9 @@
 use Rattle.std.proofs.Common.{◌≡◌, ℕ, List, [], ◌∷◌, ◌++◌, drop, Option, None, refl, sym, ap, ◌∙◌, subst}
 use Rattle.std.specs.Prelude.{IsTrue, Result, Ok, Err, IfOk, OnOk}
 use Rattle.dap_adapter.specs.AdapterState.{AdapterState}
-use Rattle.dap_adapter.specs.Calls.{Takes, Handled, Saw, Exchanges, TurnGives}
+use Rattle.dap_adapter.specs.Calls.{Takes, Handled, Saw, Emits, Exchanges, TurnGives}
+use Rattle.serde_json.specs.Data.{Data}
+use Rattle.dap_plan.specs.SessionState.{AppendsSome}
 use Rattle.dap_adapter.specs.declared.taken.Taken.{Taken}
 use Rattle.dap_adapter.specs.declared.taken.Turned.{Turned}
 use Rattle.dap_adapter.specs.declared.taken.Turned.TheVariants.{Idle, Done}
@@ -21,7 +23,7 @@ use Rattle.dap_envelope.specs.ReadBack.{ReadsBack}
 use Rattle.dap_call.specs.declared.call.Call.{Call}
 use Rattle.dap_envelope.specs.declared.message.Message.{Message}
 use Rattle.dap_plan.specs.Carried.{Goes}
-use Rattle.dap_ways.specs.ByteWorld.{ByteWorld, ByteStep, by_sending, by_answering, by_taking_up, by_taking_down, by_turning, by_polling, by_exchanging, client_wrote, adapter_wrote}
+use Rattle.dap_ways.specs.ByteWorld.{ByteWorld, ByteStep, by_sending, by_answering, by_taking_up, by_taking_down, by_turning, by_polling, by_emitting, by_exchanging, client_wrote, adapter_wrote}
 use Rattle.dap_ways.specs.Steps.{ClientSteps, ClientStepsOver, AdapterSteps, AdapterStepsOver, TurnSteps}
 
 module _ {D : Type 0} (shown : D → Shown) (follows : Goes D) where
@@ -86,6 +88,12 @@ module _ {D : Type 0} (shown : D → Shown) (follows : Goes D) where
       let step : ByteStep shown follows v (adapter_wrote new bytes v) = by_polling (record { bytes = bytes; after = new; saw = saw; limits = limits; is = refl }) in
       subst (λ (z : ByteWorld D). ByteStep shown follows z (adapter_wrote new bytes z)) (with-adapter w old e) step
 
+  pub emit-steps : (name : List ℕ) (body : Option Data) (old new : AdapterState D) (bytes : List ℕ) → Emits follows name body old bytes new → new.session.limits ≡ old.session.limits → AdapterSteps shown follows old bytes new
+  emit-steps name body old new bytes emits limits = λ w e.
+      let v : ByteWorld D = record w { adapter = old } in
+      let step : ByteStep shown follows v (adapter_wrote new bytes v) = by_emitting name body (record { bytes = bytes; after = new; emits = emits; limits = limits; is = refl }) in
+      subst (λ (z : ByteWorld D). ByteStep shown follows z (adapter_wrote new bytes z)) (with-adapter w old e) step
+
   pub exchange-steps : (old new : AdapterState D) → Exchanges shown old new → AdapterSteps shown follows old [] new
   exchange-steps old new exchanges = λ w e.
       let v : ByteWorld D = record w { adapter = old } in
@@ -120,3 +128,9 @@ module _ {D : Type 0} (shown : D → Shown) (follows : Goes D) where
   pub polled-steps : {V F : Type 0} (items : V → List ℕ) (r : Result V F) (old new : AdapterState D) → IfOk r (λ b. Saw follows old (items b) new) → new.session.limits ≡ old.session.limits → IfOk r (λ b. AdapterSteps shown follows old (items b) new)
   polled-steps items (Ok v) old new saw limits = poll-steps old new (items v) saw limits
   polled-steps items (Err fault) old new saw limits = tt
+
+  -- of a call that appends what it writes
+  pub emitted-steps : {T F : Type 0} (r : Result T F) (name : List ℕ) (body : Option Data) (old new : AdapterState D) (before after : List ℕ) → OnOk r (AppendsSome (λ bytes. Emits follows name body old bytes new) before after) → new.session.limits ≡ old.session.limits
+      → OnOk r (AppendsSome (λ bytes. AdapterSteps shown follows old bytes new) before after)
+  emitted-steps (Ok v) name body old new before after a limits = record { bytes = a.bytes; items = a.items; holds = emit-steps name body old new a.bytes a.holds limits }
+  emitted-steps (Err fault) name body old new before after a limits = tt

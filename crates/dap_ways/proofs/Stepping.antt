@@ -29,10 +29,13 @@ use Rattle.dap_plan.specs.Carried.{Goes}
 use Rattle.dap_plan.specs.Plan.{Made, Plan, written_by, references_end_if, entries_of}
 use Rattle.dap_outbox.specs.Draft.{Draft, outs}
 use Rattle.dap_plan.specs.Polling.{polls}
+use Rattle.dap_plan.specs.Emitting.{emit_faults, emits, first_emit_fault}
+use Rattle.dap_plan.specs.declared.fault.AdapterFault.{AdapterFault}
+use Rattle.serde_json.specs.Data.{Data}
 use Rattle.dap_plan.specs.Session.{Session as AdapterSession, fresh_session as fresh_adapter}
 use Rattle.dap_plan.specs.SessionState.{SessionState}
 use Rattle.dap_world.specs.Moves.{MovesInOrder}
-use Rattle.dap_world.specs.World.{World, Said, said_by, client_said, adapter_said, Step, Schedule, starts, goes, by_sending, by_answering, by_coming_up, by_coming_down, by_turning, by_polling, by_exchanging}
+use Rattle.dap_world.specs.World.{World, Said, said_by, client_said, adapter_said, Step, Schedule, starts, goes, by_sending, by_answering, by_coming_up, by_coming_down, by_turning, by_polling, by_emitting, by_exchanging}
 use Rattle.dap_ways.specs.Agreement.{IsOneOfMessages}
 use Rattle.dap_ways.specs.ByteWorld as bytes
 use Rattle.dap_ways.specs.ByteWorld.{ByteWorld, client_wrote, adapter_wrote, IsFreshClient, IsFreshAdapter, ByteStep, ByteSchedule}
@@ -386,6 +389,16 @@ module _ {D : Type 0} (split : EachStreamHasOneSplit) (moves : MovesInOrder) (sh
         within = h.within;
       })))
 
+  emits_once : (name : List ℕ) (body : Option Data) (old new : ByteWorld D) → bytes.Emits follows name body old new → Is old → Is new
+  emits_once name body old new t g =
+      let k = g.matches in
+      let h = t.emits in
+      subst Is (sym t.is) (adapter-steps old (emits name body old.adapter.session) t.bytes t.after h.intake h.step t.limits g (by_emitting name body (record {
+        free = subst (λ (f : Option AdapterFault). first_emit_fault emit_faults name body (is_some f) old.adapter.session ≡ None) k.adapter.no_fault h.free;
+        step = record { adapter = state_of t.after; session = h.step.session; reads_back = h.step.reads_back k.adapter_used k.adapter_history k.adapter; is = refl };
+        within = h.within;
+      })))
+
   -- ---- the debuggee's mail is exchanged
 
   exchanges : (old : ByteWorld D) (after : AdapterState D) → AdapterExchanges shown old.adapter after → Is old → Is (adapter_wrote after [] old)
@@ -424,6 +437,7 @@ module _ {D : Type 0} (split : EachStreamHasOneSplit) (moves : MovesInOrder) (sh
   steps old new (bytes.by_taking_down t) g = subst Is (sym t.is) (client-takes old t.piece t.later t.front t.got t.got.delivered t.after t.takes t.limits g)
   steps old new (bytes.by_turning t) g = turns old new t g
   steps old new (bytes.by_polling t) g = polls_once old new t g
+  steps old new (bytes.by_emitting name body t) g = emits_once name body old new t g
   steps old new (bytes.by_exchanging t) g = subst Is (sym t.is) (exchanges old t.after t.exchanges g)
 
   pub is-one-of-messages : (w : ByteWorld D) → ByteSchedule shown follows limits debuggee w → Is w

@@ -3,7 +3,8 @@
 use Rattle.std.specs.Prelude.{◌≡◌, ℕ, List, [], ◌∷◌, ◌++◌, drop, map, Option, None, IsTrue}
 use Rattle.std.specs.List.{flat_map}
 use Rattle.dap_adapter.specs.AdapterState.{AdapterState}
-use Rattle.dap_adapter.specs.Calls.{Takes, Handled, Saw, Exchanges as AdapterExchanges}
+use Rattle.dap_adapter.specs.Calls.{Takes, Handled, Saw, Exchanges as AdapterExchanges, Emits as AdapterEmits}
+use Rattle.serde_json.specs.Data.{Data}
 use Rattle.dap_adapter.specs.StandsFor.{StandsFor}
 use Rattle.dap_check.specs.declared.line.Side.{Side}
 use Rattle.dap_check.specs.declared.line.Side.TheVariants.{Client, Adapter}
@@ -74,8 +75,8 @@ pub record IsFreshAdapter {D : Type 0} (limits : Settings) (debuggee : D) (a : A
 
 -- ---- steps
 
--- Each is a call that succeeds, and its fields are clauses of that call's contract (`dap_ways::steps` makes the calls). A `send` or an
--- `answer` that is refused changes nothing, and neither does an idle turn. Which other refusals there can be is said of each world
+-- Each is a call that succeeds, and its fields are clauses of that call's contract (`dap_ways::steps` makes the calls). A `send`, an `answer`
+-- or an `emit` that is refused changes nothing, and neither does an idle turn. Which other refusals there can be is said of each world
 -- that a schedule leads to (`AdapterMeetsNoOtherFault`, `ClientMeetsNoOtherFault`). `Client::next` is `take`, with the bytes appended.
 
 -- `Client::send`, of a plain call
@@ -134,6 +135,14 @@ pub record Polls {D : Type 0} (follows : Goes D) (old new : ByteWorld D) : Type 
   pub limits : after.session.limits ≡ old.adapter.session.limits
   pub is : new ≡ adapter_wrote after bytes old
 
+-- `Adapter::emit`, of an event that nothing refuses
+pub record Emits {D : Type 0} (follows : Goes D) (name : List ℕ) (body : Option Data) (old new : ByteWorld D) : Type 0 where
+  pub bytes : List ℕ
+  pub after : AdapterState D
+  pub emits : AdapterEmits follows name body old.adapter bytes after
+  pub limits : after.session.limits ≡ old.adapter.session.limits
+  pub is : new ≡ adapter_wrote after bytes old
+
 -- `Adapter::exchange`, which writes nothing
 pub record Exchanges {D : Type 0} (shown : D → Shown) (old new : ByteWorld D) : Type 0 where
   pub after : AdapterState D
@@ -147,6 +156,7 @@ pub data ByteStep {D : Type 0} (shown : D → Shown) (follows : Goes D) (old new
   by_taking_down : ClientTakesPiece old new → ByteStep shown follows old new
   by_turning : Turns shown follows old new → ByteStep shown follows old new
   by_polling : Polls follows old new → ByteStep shown follows old new
+  by_emitting : (name : List ℕ) (body : Option Data) → Emits follows name body old new → ByteStep shown follows old new
   by_exchanging : Exchanges shown old new → ByteStep shown follows old new
 
 -- what a schedule from two fresh ends leads to

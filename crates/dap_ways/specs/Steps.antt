@@ -12,6 +12,7 @@ use Rattle.dap_client.specs.declared.got.Sent.{Sent}
 use Rattle.dap_debuggee.specs.Shown.{Shown}
 use Rattle.dap_plan.specs.Carried.{Goes}
 use Rattle.dap_plan.specs.Handling.{turns}
+use Rattle.dap_plan.specs.SessionState.{AppendsSome}
 use Rattle.dap_ways.specs.ByteWorld.{ByteWorld, ByteStep, client_wrote, adapter_wrote}
 
 -- whatever is on the ways: the client went from one to the other, and wrote these bytes
@@ -49,3 +50,7 @@ TakeUpSteps shown follows old piece new taken = AdapterStepsOver shown follows o
 
 abbrev pub PollSteps : {D A : Type 0} → (D → Shown) → Goes D → AdapterState D → AdapterState D → Vec ℕ A → Type 0
 PollSteps shown follows old new bytes = AdapterSteps shown follows old bytes.items new
+
+-- of a call that appends what it writes
+abbrev pub EmitSteps : {D A : Type 0} → (D → Shown) → Goes D → AdapterState D → AdapterState D → Vec ℕ A → Vec ℕ A → Type 0
+EmitSteps shown follows old new before after = AppendsSome (λ bytes. AdapterSteps shown follows old bytes new) before.items after.items

@@ -1,19 +1,21 @@
 //! The steps of a world of bytes, each as the call that it is: a function makes it, and its contract says that it is a step,
 //! whatever is on the ways, or why it is refused. What else is to be known of a call stands with the call.
-ghost use Rattle.std.specs.Prelude.{◌≡◌, [], IfErr, IfOk, OnErr, IsTrue};
+ghost use Rattle.std.specs.Prelude.{◌≡◌, [], IfErr, IfOk, OnErr, OnOk, IsTrue};
 ghost use Rattle.dap_client.specs.Calls.{NotAnswered, NotSent, PieceNotTaken};
 ghost use Rattle.dap_client.specs.TerminalResponse.{is_plain_terminal};
 ghost use Rattle.dap_debuggee.specs.declared.answers.State.{State};
 ghost use Rattle.dap_call.specs.PlainCall.{is_plain_call};
 ghost use Rattle.dap_ways.specs.ByteWorld.{IsFreshAdapter, IsFreshClient};
-ghost use Rattle.dap_ways.specs.Steps.{AdapterSteps, TurnSteps, SendSteps, AnswerSteps, TakeDownSteps, TakeUpSteps, PollSteps};
-ghost use Rattle.dap_adapter.specs.Calls.{PieceNotTakenUp, TurnNotMade, PollNotMade};
+ghost use Rattle.dap_ways.specs.Steps.{AdapterSteps, TurnSteps, SendSteps, AnswerSteps, TakeDownSteps, TakeUpSteps, PollSteps, EmitSteps};
+ghost use Rattle.dap_adapter.specs.Calls.{NotEmitted, PieceNotTakenUp, TurnNotMade, PollNotMade};
+ghost use Rattle.dap_json.specs.Writable.{is_plain_tree};
 
-use dap_adapter::{Adapter, AdapterFault, Taken, Turned};
+use dap_adapter::{Adapter, AdapterFault, EmitFault, Taken, Turned};
 use dap_call::Call;
 use dap_client::{AnswerFault, Client, ClientFault, Got, SendFault, Sent, Terminal};
 use dap_debuggee::{Debuggee, HasMail};
 use dap_frame::Limits;
+use dap_json::Tree;
 use std::alloc::{AllocError, Global};
 
 /// A client with which a schedule starts: [`Client::open`].
@@ -104,6 +106,22 @@ pub fn poll<D: Debuggee + Drop>(
     ensures refused { IfErr result (PollNotMade D.follows adapter.old adapter.new) }
 {
     adapter.poll(alloc)
+}
+
+/// [`Adapter::emit`]. Where it is refused nothing has changed.
+pub fn emit<D: Debuggee + Drop>(
+    adapter: &mut Adapter<D>,
+    alloc: Global,
+    event: &str,
+    body: &Option<Tree>,
+    out: &mut Vec<u8>,
+) -> Result<(), EmitFault>
+    requires plain { IsTrue (is_plain_tree body.now) }
+    ensures step { OnOk result (EmitSteps D.shown D.follows adapter.old adapter.new out.old out.new) }
+    ensures refused { IfErr result (NotEmitted event.now body.now adapter.old) }
+    ensures unchanged { OnErr result (adapter.new ≡ adapter.old) }
+{
+    adapter.emit(alloc, event, body, out)
 }
 
 /// [`Adapter::exchange`], which writes nothing.

@@ -13,7 +13,7 @@ use Rattle.dap_plan.specs.SessionState.{SessionState}
 use Rattle.dap_client.specs.Sending.{next_message, after_send}
 use Rattle.dap_client.specs.Session.{Session as ClientSession}
 use Rattle.dap_client.specs.TerminalResponse.{next_terminal_response, after_terminal_response}
-use Rattle.dap_world.specs.World.{World, Said, said_by, messages_of, client_said, adapter_said, Step, by_sending, by_answering, by_coming_up, by_coming_down, by_turning, by_polling, by_exchanging, Schedule, starts, goes}
+use Rattle.dap_world.specs.World.{World, Said, said_by, messages_of, client_said, adapter_said, Step, by_sending, by_answering, by_coming_up, by_coming_down, by_turning, by_polling, by_emitting, by_exchanging, Schedule, starts, goes}
 use Rattle.dap_world.specs.Agreement.{AllArrive}
 use Rattle.dap_world.proofs.Lasting.{schedule-stands}
 use Rattle.dap_world.proofs.Standing.{Stands}
@@ -61,6 +61,7 @@ module _ {D : Type 0} (limits : Settings) where
       subst (λ (w : World D). AllArrive limits w) (sym t.is) (by-client t.made.after t.made.written (record old { down = t.later }) (later-down old t.message t.later t.first a) (at-client old t.made.written g t.reads_back))
   step-arrives shown follows old new (by_turning t) g a = subst (λ (w : World D). AllArrive limits w) (sym t.step.is) (by-adapter t.step.adapter (written_by old.adapter.session t.step.session.made) old a (at-adapter old (written_by old.adapter.session t.step.session.made) g t.step.reads_back))
   step-arrives shown follows old new (by_polling t) g a = subst (λ (w : World D). AllArrive limits w) (sym t.step.is) (by-adapter t.step.adapter (written_by old.adapter.session t.step.session.made) old a (at-adapter old (written_by old.adapter.session t.step.session.made) g t.step.reads_back))
+  step-arrives shown follows old new (by_emitting name body t) g a = subst (λ (w : World D). AllArrive limits w) (sym t.step.is) (by-adapter t.step.adapter (written_by old.adapter.session t.step.session.made) old a (at-adapter old (written_by old.adapter.session t.step.session.made) g t.step.reads_back))
   step-arrives shown follows old new (by_exchanging t) g a = subst (λ (w : World D). AllArrive limits w) (sym t.all_else) (record { up = a.up; down = a.down; said = a.said })
 
 pub schedule-arrives : {D : Type 0} (laws : Laws) (shown : D → Shown) (follows : Goes D) (limits : Settings) (debuggee : D) (w : World D) → AreInRange limits → Schedule shown follows limits debuggee w → AllArrive limits w

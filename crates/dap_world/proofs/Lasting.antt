@@ -6,10 +6,10 @@ use Rattle.dap_frame.specs.Settings.{Settings, AreInRange}
 use Rattle.dap_command.specs.Offer.{usual_offer}
 use Rattle.dap_debuggee.specs.Shown.{Shown}
 use Rattle.dap_plan.specs.Carried.{Goes}
-use Rattle.dap_world.specs.World.{World, fresh_world, Step, by_sending, by_answering, by_coming_up, by_coming_down, by_turning, by_polling, by_exchanging, Schedule, starts, goes}
+use Rattle.dap_world.specs.World.{World, fresh_world, Step, by_sending, by_answering, by_coming_up, by_coming_down, by_turning, by_polling, by_emitting, by_exchanging, Schedule, starts, goes}
 use Rattle.dap_world.proofs.ClientStepping.{send-stands, down-stands, answer-stands}
 use Rattle.dap_world.proofs.Standing.{Stands}
-use Rattle.dap_world.proofs.Stepping.{Laws, turn-stands, poll-stands, up-stands}
+use Rattle.dap_world.proofs.Stepping.{Laws, turn-stands, poll-stands, emit-stands, up-stands}
 
 unfoldable pub fresh-stands : {D : Type 0} → Laws → (limits : Settings) (debuggee : D) → Stands limits (fresh_world limits debuggee)
 fresh-stands laws limits debuggee =
@@ -53,6 +53,7 @@ step-stands laws shown follows limits old new r (by_coming_down t) g = (down-sta
 step-stands laws shown follows limits old new r (by_answering q terminal t) g = (answer-stands laws limits q terminal old new t g).stands
 step-stands laws shown follows limits old new r (by_turning t) g = (turn-stands laws shown follows limits old new r t g).stands
 step-stands laws shown follows limits old new r (by_polling t) g = (poll-stands laws follows limits old new t g).stands
+step-stands laws shown follows limits old new r (by_emitting name body t) g = (emit-stands laws follows limits name body old new t g).stands
 step-stands laws shown follows limits old new r (by_exchanging t) g = subst (λ w. Stands limits w) (sym t.all_else) (stands-over limits old new.adapter.debuggee g)
 
 pub schedule-stands : {D : Type 0} (laws : Laws) (shown : D → Shown) (follows : Goes D) (limits : Settings) (debuggee : D) (w : World D) → AreInRange limits → Schedule shown follows limits debuggee w → Stands limits w

@@ -6,7 +6,7 @@ use Rattle.dap_plan.specs.Carried.{Goes, CarriedOut}
 use Rattle.dap_plan.specs.Plan.{Made, Plan, at_once, asking}
 use Rattle.dap_plan.specs.SessionState.{SessionState, SessionStep}
 use Rattle.dap_world.specs.References.{LastingStops}
-use Rattle.dap_world.specs.World.{World, AdapterStep, Step, by_sending, by_answering, by_coming_up, by_coming_down, by_turning, by_polling, by_exchanging, Schedule, starts, goes}
+use Rattle.dap_world.specs.World.{World, AdapterStep, Step, by_sending, by_answering, by_coming_up, by_coming_down, by_turning, by_polling, by_emitting, by_exchanging, Schedule, starts, goes}
 
 -- as one debuggee goes on, so does the other
 abbrev Carries : {D : Type 0} → Goes D → Goes D → Type 0
@@ -30,6 +30,7 @@ module _ {D : Type 0} (shown : D → Shown) (follows others : Goes D) (carries :
   step old new (by_coming_down c) = by_coming_down c
   step old new (by_turning t) = by_turning (record { plan = t.plan; turned = t.turned; step = adapter t.plan old old new t.step })
   step old new (by_polling p) = by_polling (record { step = adapter _ old old new p.step; within = p.within })
+  step old new (by_emitting name body e) = by_emitting name body (record { free = e.free; step = adapter _ old old new e.step; within = e.within })
   step old new (by_exchanging e) = by_exchanging e
 
   pub schedule : (limits : Settings) (debuggee : D) (w : World D) → Schedule shown follows limits debuggee w → Schedule shown others limits debuggee w

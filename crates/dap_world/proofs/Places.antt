@@ -26,11 +26,13 @@ use Rattle.dap_plan.specs.Carried.{Goes}
 use Rattle.dap_plan.specs.Laws.{CanMake, can_make}
 use Rattle.dap_plan.specs.Plan.{Made}
 use Rattle.dap_plan.specs.Polling.{polls}
+use Rattle.dap_plan.specs.Emitting.{emits}
+use Rattle.serde_json.specs.Data.{Data}
 use Rattle.dap_plan.specs.Session.{Session, own_requests}
 use Rattle.dap_tables.specs.Outstanding.{Kept, kept_unparked, without}
 use Rattle.dap_tables.specs.declared.entry.Entry.{Entry}
 use Rattle.dap_world.specs.Agreement.{requests_among, responses_among, answer_to, count, AreInOnePlace}
-use Rattle.dap_world.specs.World.{World, client_said, fresh_world, Step, by_sending, by_answering, by_coming_up, by_coming_down, by_turning, by_polling, by_exchanging, Sends, Answers, ComesUp, ComesDown, Turns, Polls, Schedule, starts, goes}
+use Rattle.dap_world.specs.World.{World, client_said, fresh_world, Step, by_sending, by_answering, by_coming_up, by_coming_down, by_turning, by_polling, by_emitting, by_exchanging, Sends, Answers, ComesUp, ComesDown, Turns, Polls, Emits, Schedule, starts, goes}
 use Rattle.dap_world.proofs.ClientStepping.{Comes, down-first, down-comes, kind-leaves, request-kept}
 use Rattle.dap_world.proofs.Lasting.{schedule-stands}
 use Rattle.dap_world.proofs.Named.{Name, names_of, own_names, asked_as, answered_as, asked_in, answered_in, count as count_names, AreNamedInOnePlace, OwnIsNamedInOnePlace}
@@ -317,6 +319,15 @@ module _ {D : Type 0} (laws : Laws) (shown : D → Shown) (follows : Goes D) (li
       let well : GoesWell s [] None made = laws.goes_well.poll s made can in
       subst (λ (x : World D). Sent x) (sym (written follows old new old.up (polls s) t.step.adapter t.step.session t.step.is)) (made-sent old old.up [] None made v g well tt g.up g.own_up)
 
+  emit-sent : (name : List ℕ) (body : Option Data) (old new : World D) → Emits follows name body old new → Stands limits old → Sent old → Sent new
+  emit-sent name body old new t st g =
+      let s : Session = old.adapter.session in
+      let made : Made = t.step.session.made in
+      let v = t.step.adapter.debuggee in
+      let can : CanMake (emits name body s) made = can_make follows (emits name body s) old.adapter.debuggee v made t.step.session.carried in
+      let well : GoesWell s [] None made = laws.goes_well.emit name body s made can in
+      subst (λ (x : World D). Sent x) (sym (written follows old new old.up (emits name body s) t.step.adapter t.step.session t.step.is)) (made-sent old old.up [] None made v g well tt g.up g.own_up)
+
   down-sent : (old new : World D) → ComesDown old new → Stands limits old → Sent old → Sent new
   down-sent old new t st g =
       let s : ClientSession = old.client in
@@ -349,6 +360,7 @@ module _ {D : Type 0} (laws : Laws) (shown : D → Shown) (follows : Goes D) (li
   step-sent old new (by_coming_down t) st g = down-sent old new t st g
   step-sent old new (by_turning t) st g = turn-sent old new t st g
   step-sent old new (by_polling t) st g = poll-sent old new t st g
+  step-sent old new (by_emitting name body t) st g = emit-sent name body old new t st g
   step-sent old new (by_exchanging t) st g =
       subst (λ (w : World D). Sent w) (sym t.all_else) (record { by = g.by; outstanding = g.outstanding; up = g.up; kept = g.kept; down = g.down; incoming = g.incoming; own_down = g.own_down; own_up = g.own_up })
 

@@ -1,5 +1,5 @@
 -- What stands where a stop lasts until the debuggee is asked to go on or to end: the smaller pair keeps its references, and the adapter's phase is the debuggee's state.
-use Rattle.std.proofs.Common.{◌≡◌, false, refl, sym, subst, true≢false}
+use Rattle.std.proofs.Common.{◌≡◌, ℕ, List, Option, false, refl, sym, subst, true≢false}
 use Rattle.std.specs.Prelude.{IsTrue}
 use Rattle.dap_ends.specs.AdapterModel as model
 use Rattle.dap_ends.specs.Pair.{Pair}
@@ -16,6 +16,8 @@ use Rattle.dap_debuggee.specs.declared.answers.State.TheVariants as state
 use Rattle.dap_plan.specs.Carried.{Goes, CarriedOut}
 use Rattle.dap_plan.specs.Plan.{Made, Plan, at_once, asking, written_by}
 use Rattle.dap_plan.specs.Polling.{polls}
+use Rattle.dap_plan.specs.Emitting.{emits}
+use Rattle.serde_json.specs.Data.{Data}
 use Rattle.dap_plan.specs.Session.{Session}
 use Rattle.dap_plan.specs.SessionState.{SessionState, SessionStep}
 use Rattle.dap_plan.specs.StateLaws.{IsStateOf, KeepsState, EachStepKeepsState}
@@ -23,13 +25,13 @@ use Rattle.dap_decision.specs.declared.phase.Phase.{Phase}
 use Rattle.dap_decision.specs.declared.phase.Phase.TheVariants as adapter
 use Rattle.dap_world.specs.Projection.{adapter_model_phase, pair_of}
 use Rattle.dap_world.specs.References.{LastingStops}
-use Rattle.dap_world.specs.World.{World, Exchanges, Step, by_sending, by_answering, by_coming_up, by_coming_down, by_turning, by_polling, by_exchanging, Schedule, starts, goes, adapter_said}
+use Rattle.dap_world.specs.World.{World, Exchanges, Step, by_sending, by_answering, by_coming_up, by_coming_down, by_turning, by_polling, by_emitting, by_exchanging, Schedule, starts, goes, adapter_said}
 use Rattle.dap_world.proofs.ClientStepping.{send-stands, down-stands, answer-stands}
 use Rattle.dap_world.proofs.Lasting.{fresh-stands, stands-over}
 use Rattle.dap_world.proofs.PollsSeen.{happening_seen, happening_in, can_poll}
 use Rattle.dap_world.proofs.RowsSeen.{at}
 use Rattle.dap_world.proofs.Standing.{Stands, StandsAfter}
-use Rattle.dap_world.proofs.Stepping.{Laws, turn-stands, poll-stands, up-stands}
+use Rattle.dap_world.proofs.Stepping.{Laws, turn-stands, poll-stands, emit-stands, up-stands}
 
 pub record StandsStill {D : Type 0} (shown : D → Shown) (limits : Settings) (debuggee : D) (w : World D) : Type 0 where
   pub stands : Stands limits w
@@ -142,6 +144,15 @@ module _ {D : Type 0} (shown : D → Shown) (follows : Goes D) (answers : Answer
         stands = a.stands;
         keeps = keeps-then limits old new _ g.stands a calm g.keeps;
         state = state-stepped first (polls s) old old new t.step.adapter t.step.session t.step.is (states.poll first s) g.state;
+      }
+  step-still laws states limits debuggee old new r (by_emitting name body t) g =
+      let a = emit-stands laws lasting limits name body old new t g.stands in
+      let first = (shown debuggee).state in
+      let s : Session = old.adapter.session in
+      record {
+        stands = a.stands;
+        keeps = keeps-then limits old new (Unit {0}) g.stands a tt g.keeps;
+        state = state-stepped first (emits name body s) old old new t.step.adapter t.step.session t.step.is (states.emit first name body s) g.state;
       }
   step-still laws states limits debuggee old new r (by_exchanging t) g = exchange-still limits debuggee old new t g
 

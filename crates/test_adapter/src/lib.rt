@@ -6,6 +6,8 @@ mod bodies;
 #[cfg(test)]
 mod differences;
 #[cfg(test)]
+mod emitting;
+#[cfg(test)]
 mod frames;
 #[cfg(test)]
 mod greatest;
