@@ -11,7 +11,7 @@ answer_fed-requires-clause-open c = none_met _ c.args.self.now c.self.view_is c.
 pub returns-in-Ok-clause-answers : goal.returns-in-Ok-clause-answers
 returns-in-Ok-clause-answers c = on_ok_weaker c.hand_out.result (λ out.
     answered_at _ c.args.self.now _ c.args.body.now c.answer_fed.new.bytes.items c.args.out.now.items c.hand_out.new.out.items c.in-Ok.acts.items c.self.view_is c.requires.going c.limits_are_in_range.ensures c.bodies_come_one_by_one.ensures c.requires.takes
-    (rw c.replace-ahead.ensures.value at c.in-Ok.ensures.answers) (λ outs are. out outs (c.deref.ensures.value ∙ are) ∙ ap (λ (acts : List HostAct). c.args.out.now.items ++ (message_lines outs ++ act_lines acts)) c.deref-in-Ok.ensures.value) (record { limits = refl; longest = refl; number = refl; ahead = c.replace-ahead.ensures.after ∙ c.nothing_ahead.ensures })) c.hand_out.ensures.out
+    (rw c.replace-ahead.ensures.value at c.in-Ok.ensures.answers) (λ outs are. out outs (c.deref.ensures.value ∙ are) ∙ ap (λ (acts : List HostAct). c.args.out.now.items ++ (message_lines outs ++ act_lines acts)) c.deref-in-Ok.ensures.value) (record { limits = refl; longest = refl; number = refl; ahead = c.replace-ahead.ensures.after ∙ c.none.ensures })) c.hand_out.ensures.out
 
 pub returns-in-Ok-clause-going : goal.returns-in-Ok-clause-going
 returns-in-Ok-clause-going c = on_ok_weaker c.hand_out.result (λ out.

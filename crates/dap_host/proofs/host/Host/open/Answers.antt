@@ -21,7 +21,7 @@ returns-clause-fresh c = record {
   limits_are = refl;
   longest_is = refl;
   number = refl;
-  none_ahead = c.nothing_ahead.ensures;
+  none_ahead = c.none.ensures;
 }
 
 pub returns-clause-going : goal.returns-clause-going
