@@ -108,7 +108,7 @@ fn events_are_told_by_their_names(rt: HostRuntime) -> Result<(), Fail> {
     for row in &ROWS {
         let (before, event, body, wanted) = *row;
         let Some(mut adapter) = adapter_after(rt.alloc(), Limits::usual(), before) else {
-            return Err(Fail);
+            return Err(Fail::from("no adapter"));
         };
         assert!(rt; comes(rt.alloc(), &mut adapter, event, body, wanted));
     }
@@ -152,13 +152,13 @@ fn row_within(alloc: Global, adapter: &mut Adapter<Recorded>, bytes: usize, want
 #[test]
 fn events_keep_to_the_limits(rt: HostRuntime) -> Result<(), Fail> {
     let Ok(limits) = Limits::usual().with(LimitFault::Body, 1024) else {
-        return Err(Fail);
+        return Err(Fail::from("limits that are refused"));
     };
     let Ok(limits) = limits.with(LimitFault::Seq, 3) else {
-        return Err(Fail);
+        return Err(Fail::from("limits that are refused"));
     };
     let Some(mut adapter) = adapter_after(rt.alloc(), limits, &[INITIALIZE]) else {
-        return Err(Fail);
+        return Err(Fail::from("no adapter"));
     };
     assert!(rt; row_within(rt.alloc(), &mut adapter, 979, "TooLarge"));
     assert!(rt; row_within(rt.alloc(), &mut adapter, 978, "told"));
@@ -170,7 +170,7 @@ fn events_keep_to_the_limits(rt: HostRuntime) -> Result<(), Fail> {
 #[test]
 fn a_closed_adapter_tells_no_event(rt: HostRuntime) -> Result<(), Fail> {
     let Some(mut adapter) = adapter_after(rt.alloc(), Limits::usual(), &[INITIALIZE]) else {
-        return Err(Fail);
+        return Err(Fail::from("no adapter"));
     };
     assert!(rt; adapter.take(rt.alloc(), b"no header\r\n\r\n").is_err());
     assert!(rt; comes(rt.alloc(), &mut adapter, "module", "", "Closed"));
