@@ -26,9 +26,13 @@ def thread_numbers():
 
 
 def module_of(objfile):
-    """What the protocol tells of a file of code; nothing of one that has no name."""
-    path = objfile.is_valid() and objfile.filename
-    return {"id": clean(path), "name": clean(os.path.basename(path)), "path": clean(path)} if path else None
+    """What the protocol tells of a file of code; nothing of one that has no name, nor of what another's symbols are in."""
+    if not objfile.is_valid() or not objfile.filename or objfile.owner:
+        return None
+    path = clean(objfile.filename)
+    if not os.path.isabs(path):  # the kernel's own, "system-supplied DSO at .."
+        return {"id": path, "name": path}
+    return {"id": path, "name": os.path.basename(path), "path": path}
 
 
 class Stop:
