@@ -3,7 +3,8 @@ use Rattle.std.proofs.Common.{◌≡◌, ℕ, ◌≤◌, List, [], ◌∷◌, �
 use Rattle.std.specs.Prelude.{IfErr, IfOk}
 use Rattle.dap_adapter.specs.AdapterState.{AdapterState}
 use Rattle.dap_adapter.specs.Bodies.{IsBetween, BodiesComeOneByOne}
-use Rattle.dap_adapter.specs.Calls.{Emits}
+use Rattle.dap_adapter.specs.Calls.{Emits, Responds}
+use Rattle.dap_message.specs.declared.outcome.Outcome.{Outcome}
 use Rattle.dap_plan.specs.Plan.{written_by}
 use Rattle.dap_plan.specs.SessionState.{AppendsSome}
 use Rattle.serde_json.specs.Data.{Data}
@@ -25,8 +26,8 @@ use Rattle.dap_command.specs.declared.offer.Offer.{Offer}
 use Rattle.dap_plan.specs.Session.{Session, opened_session}
 use Rattle.dap_plan.specs.declared.fault.AdapterFault.{AdapterFault}
 use Rattle.dap_host.specs.Fed.{AnswersFed, TellsFed, mail_ahead, over_mail}
-use Rattle.dap_host.specs.Hearing.{HostState, Comes, with_ahead, sources_there, IsGoing, SameButAdapter, TakesMessage, AnswersMessage, TellsIt, EmitsEvent, StopsMessage, StopsTelling, RefusesTold, bad_moment, dropped, IsUnheard, drop_of}
-use Rattle.dap_line.specs.Written.{message_lines, act_lines}
+use Rattle.dap_host.specs.Hearing.{HostState, Comes, with_ahead, sources_there, IsGoing, SameButAdapter, TakesMessage, AnswersMessage, TellsIt, EmitsEvent, AnswersLent, newly_lent, StopsMessage, StopsTelling, RefusesTold, bad_moment, dropped, IsUnheard, drop_of}
+use Rattle.dap_line.specs.Written.{message_lines, act_lines, lent_lines}
 use Rattle.dap_live.specs.declared.mail.Ahead.{Ahead}
 use Rattle.dap_live.specs.declared.mail.Coming.{Coming}
 use Rattle.dap_live.specs.declared.mail.Dropped.{Dropped as Drop}
@@ -87,7 +88,7 @@ one_came h there body bytes ended going range laws takes a =
     laws.answered (over_mail (mail_ahead h.ahead) h.adapter) there body [] bytes ended (given_between (mail_ahead h.ahead) h laws going) (in_range h going range) fits takes.going a
 
 pub answered : (h k : HostState) (body bytes before after : List ℕ) (acts : List HostAct) → IsGoing h → AreInRange h.limits → Laws → TakesMessage h body → AnswersFed h.adapter h.ahead body bytes acts k.adapter
-    → ((outs : List Message) → bytes ≡ bytes_of outs → after ≡ before ++ (message_lines outs ++ act_lines acts)) → SameButAdapter (with_ahead nothing_ahead h) k → AnswersMessage h body before after k
+    → ((outs : List Message) → bytes ≡ bytes_of outs → after ≡ before ++ (message_lines outs ++ (act_lines acts ++ lent_lines (newly_lent h.adapter k.adapter)))) → SameButAdapter (with_ahead nothing_ahead h) k → AnswersMessage h body before after k
 answered h k body bytes before after acts going range laws takes fed hands same =
     record {
       bytes = bytes;
@@ -123,7 +124,7 @@ stopped_telling h k c bytes before after fault stops hands = record { bytes = by
 -- ---- the same of a host that is taken apart
 
 pub answered_at : (o h k : HostState) (body bytes before after : List ℕ) (acts : List HostAct) → o ≡ h → IsGoing h → AreInRange o.limits → Laws → TakesMessage h body → AnswersFed o.adapter o.ahead body bytes acts k.adapter
-    → ((outs : List Message) → bytes ≡ bytes_of outs → after ≡ before ++ (message_lines outs ++ act_lines acts)) → SameButAdapter (with_ahead nothing_ahead o) k → AnswersMessage h body before after k
+    → ((outs : List Message) → bytes ≡ bytes_of outs → after ≡ before ++ (message_lines outs ++ (act_lines acts ++ lent_lines (newly_lent o.adapter k.adapter)))) → SameButAdapter (with_ahead nothing_ahead o) k → AnswersMessage h body before after k
 answered_at o h k body bytes before after acts e going range laws takes fed hands same =
     subst (λ (z : HostState). AnswersMessage z body before after k) e (answered o k body bytes before after acts (subst IsGoing (sym e) going) range laws (subst (λ (z : HostState). TakesMessage z body) (sym e) takes) fed hands same)
 
@@ -203,3 +204,17 @@ emitted_going o h k name body bytes e going laws a limits =
     let was : IsGoing o = subst IsGoing (sym e) going in
     let told = a.holds in
     goes o k was told.limits limits (laws.emitted o.adapter k.adapter name body a.bytes (between o was) told) (ap (λ (v : LiveState). v.mail) told.debuggee ∙ was.fetched)
+
+-- ---- a lent request is answered
+
+pub respond_at : (o h k : HostState) (seq : ℕ) (outcome : Outcome) (bytes before after : List ℕ) → o ≡ h → AppendsSome (λ more. Responds FollowsLive seq outcome o.adapter more k.adapter) [] bytes
+    → ((outs : List Message) → bytes ≡ bytes_of outs → after ≡ before ++ message_lines outs) → SameButAdapter o k → AnswersLent h seq outcome before after k
+respond_at o h k seq outcome bytes before after e a hands same =
+    let answered : AnswersLent o seq outcome before after k = record { bytes = a.bytes; answered = a.holds; lines = hands (written_by o.adapter.session a.holds.step.session.made) (a.items ∙ a.holds.step.bytes_are); same = same } in
+    subst (λ (z : HostState). AnswersLent z seq outcome before after k) e answered
+
+pub responded_going : (o h k : HostState) (seq : ℕ) (outcome : Outcome) (bytes : List ℕ) → o ≡ h → IsGoing h → Laws → AppendsSome (λ more. Responds FollowsLive seq outcome o.adapter more k.adapter) [] bytes → k.limits ≡ o.limits → IsGoing k
+responded_going o h k seq outcome bytes e going laws a limits =
+    let was : IsGoing o = subst IsGoing (sym e) going in
+    let told = a.holds in
+    goes o k was told.limits limits (laws.responded o.adapter k.adapter seq outcome a.bytes (between o was) told) (ap (λ (v : LiveState). v.mail) told.debuggee ∙ was.fetched)

@@ -1,6 +1,7 @@
 -- What a host's line leads to: it is skipped, or refused, or an adapter over a fed debuggee takes what it says. The format is this
 -- profile's choice.
-use Rattle.std.specs.Prelude.{◌≡◌, ◌≢◌, ℕ, ◌+◌, ◌<◌, ◌≤◌, nat_lt, Bool, true, false, List, [], ◌∷◌, ◌++◌, length, take, drop, codes, bytes_eq, Option, Some, None, Ok, Err, if◌then◌else◌}
+use Rattle.std.specs.Prelude.{◌≡◌, ◌≢◌, ℕ, ◌+◌, ◌<◌, ◌≤◌, nat_lt, Bool, true, false, List, [], ◌∷◌, ◌++◌, length, take, drop, codes, bytes_eq, Option, Some, None, Ok, Err, map, filter, not, ◌==◌, if◌then◌else◌}
+use Rattle.std.specs.List.{list_any}
 use Rattle.dap_adapter.specs.AdapterState.{AdapterState}
 use Rattle.dap_adapter.specs.Parts.{StopsAfter}
 use Rattle.dap_adapter.specs.Run.{to_take, to_poll, has_ended}
@@ -35,21 +36,27 @@ use Rattle.dap_host.specs.declared.host.FileFault.TheVariants.{Sources, Offers}
 use Rattle.dap_recording.specs.declared.recording.RecordedSource.{RecordedSource}
 use Rattle.dap_plan.specs.Session.{opened_session}
 use Rattle.dap_tables.specs.References.{target_of}
+use Rattle.dap_tables.specs.Outstanding.{Kept, entries}
+use Rattle.dap_tables.specs.declared.entry.Entry.{Entry as Request}
+use Rattle.dap_outbox.specs.Waiting.{lent_ones}
+use Rattle.dap_message.specs.declared.outcome.Outcome.{Outcome}
 use Rattle.dap_plan.specs.declared.fault.AdapterFault.{AdapterFault}
 use Rattle.dap_plan.specs.declared.fault.AdapterFault.TheVariants.{OutOfMemory}
 use Rattle.dap_line.specs.Moments.{IsComing, Fails, HasRoom}
 use Rattle.dap_line.specs.Told.{IsMessage, said_of, happening_of, ahead_with}
-use Rattle.dap_line.specs.Written.{message_lines, act_lines, refusal_line, target_line}
+use Rattle.dap_line.specs.Written.{message_lines, act_lines, lent_lines, refusal_line, target_line}
 use Rattle.dap_host.specs.declared.host.Mark.{Mark}
 use Rattle.dap_host.specs.declared.host.Mark.TheVariants as mark
 use Rattle.dap_line.specs.declared.refusal.Refusal.{Refusal}
-use Rattle.dap_line.specs.declared.refusal.Refusal.TheVariants.{TooLong, BadLine, Body, BodyTooLong, Ended, BadKey, Dropped, SeqExhausted}
-use Rattle.dap_line.specs.declared.told.Said.TheVariants.{Happened, Event, OfNext, Target}
+use Rattle.dap_line.specs.declared.refusal.Refusal.TheVariants.{TooLong, BadLine, Body, BodyTooLong, Ended, BadKey, Dropped, SeqExhausted, NotLent}
+use Rattle.dap_line.specs.declared.told.Said.TheVariants.{Happened, Event, Answer, OfNext, Target}
 use Rattle.dap_line.specs.declared.refusal.HostKey.TheVariants.{Event as EventKey}
 use Rattle.dap_plan.specs.Plan.{written_by}
 use Rattle.dap_plan.specs.declared.fault.EmitFault.{EmitFault}
 use Rattle.dap_plan.specs.declared.fault.EmitFault.TheVariants as fault
-use Rattle.dap_adapter.specs.Calls.{NotEmitted, Emits}
+use Rattle.dap_plan.specs.declared.fault.RespondFault.{RespondFault}
+use Rattle.dap_plan.specs.declared.fault.RespondFault.TheVariants as respond
+use Rattle.dap_adapter.specs.Calls.{NotEmitted, Emits, NotResponded, Responds}
 use Rattle.serde_json.specs.Data.{Data}
 use Rattle.dap_line.specs.declared.told.Note.{Note}
 use Rattle.dap_line.specs.declared.told.Told.{Told}
@@ -178,14 +185,31 @@ dropped_line number (Some why) = refusal_line number (Dropped why)
 
 -- ---- what is done
 
--- The adapter takes a message, and answers it: the lines of all that it writes for it, and then those of the acts that the debugger has to do.
+-- the numbers of requests, in their order
+abbrev pub numbers_in : List Request → List ℕ
+numbers_in requests = map (λ r. r.seq) requests
+
+-- of requests that are lent, by arrival
+abbrev pub lent_numbers : List Kept → List ℕ
+lent_numbers kept = numbers_in (entries (lent_ones kept))
+
+-- those that were not there before
+abbrev pub new_numbers : List ℕ → List ℕ → List ℕ
+new_numbers before after = filter (λ n. not (list_any (λ m. m == n) before)) after
+
+-- of the requests that are lent by what came between
+abbrev pub newly_lent : AdapterState LiveState → AdapterState LiveState → List ℕ
+newly_lent old new = new_numbers (lent_numbers old.session.kept) (lent_numbers new.session.kept)
+
+-- The adapter takes a message, and answers it: the lines of all that it writes for it, those of the acts that the debugger has to do, and those of the requests
+-- that are lent by it.
 -- What the host said of it counts: where breakpoints are that it sets, and that what it asks for is refused. It is of this message alone.
 pub record AnswersMessage (old : HostState) (body before after : List ℕ) (new : HostState) : Type 0 where
   pub bytes : List ℕ
   pub acts : List HostAct
   pub fed : AnswersFed old.adapter old.ahead body bytes acts new.adapter
   pub taken : fed.answers.runs_on.bodies ≡ body ∷ []
-  pub lines : after ≡ before ++ (message_lines fed.answers.outs ++ act_lines acts)
+  pub lines : after ≡ before ++ (message_lines fed.answers.outs ++ (act_lines acts ++ lent_lines (newly_lent old.adapter new.adapter)))
   pub same : SameButAdapter (with_ahead nothing_ahead old) new
 
 -- the adapter tells what comes: the lines of all that it writes then
@@ -221,6 +245,26 @@ pub data EmitsOrRefuses (old : HostState) (name : List ℕ) (body : Option Data)
   emits : EmitsEvent old name body before after new → EmitsOrRefuses old name body before after new
   emit_refused : (f : EmitFault) (why : Refusal) → NotEmitted name body old.adapter f → emit_refusal f ≡ Some why → Refuses old why before after new → EmitsOrRefuses old name body before after new
 
+-- a lent request is answered: the line of its response
+pub record AnswersLent (old : HostState) (seq : ℕ) (outcome : Outcome) (before after : List ℕ) (new : HostState) : Type 0 where
+  pub bytes : List ℕ
+  pub answered : Responds FollowsLive seq outcome old.adapter bytes new.adapter
+  pub lines : after ≡ before ++ message_lines (written_by old.adapter.session answered.step.session.made)
+  pub same : SameButAdapter old new
+
+-- why it is not, as a line's refusal; there is none where memory was refused
+abbrev pub respond_refusal : RespondFault → Option Refusal
+respond_refusal respond.Closed = Some Ended
+respond_refusal respond.NotLent = Some NotLent
+respond_refusal respond.TooLarge = Some BodyTooLong
+respond_refusal respond.SeqExhausted = Some SeqExhausted
+respond_refusal respond.OutOfMemory = None
+
+-- it is, or the line is refused for the first reason that holds
+pub data AnswersOrRefuses (old : HostState) (seq : ℕ) (outcome : Outcome) (before after : List ℕ) (new : HostState) : Type 0 where
+  answers : AnswersLent old seq outcome before after new → AnswersOrRefuses old seq outcome before after new
+  answer_refused : (f : RespondFault) (why : Refusal) → NotResponded seq outcome old.adapter f → respond_refusal f ≡ Some why → Refuses old why before after new → AnswersOrRefuses old seq outcome before after new
+
 -- what is said of the next message is kept, in place of what was said of the same before, and nothing else has changed
 pub record KeepsNote (old : HostState) (note : Note) (before after : List ℕ) (new : HostState) : Type 0 where
   pub none : after ≡ before
@@ -252,6 +296,7 @@ pub data HearsMessage (old : HostState) (body before after : List ℕ) (new : Ho
 pub data HearsHappening (old : HostState) (text before after : List ℕ) (new : HostState) : Type 0 where
   not_heard : (why : Refusal) → RefusesTold old text why → Refuses old why before after new → HearsHappening old text before after new
   emitted : (name : List ℕ) (body : Option Data) → said_of text ≡ Ok (Event name body) → EmitsOrRefuses old name body before after new → HearsHappening old text before after new
+  lent_answered : (seq : ℕ) (outcome : Outcome) → said_of text ≡ Ok (Answer seq outcome) → AnswersOrRefuses old seq outcome before after new → HearsHappening old text before after new
   noted : (note : Note) → said_of text ≡ Ok (OfNext note) → KeepsNote old note before after new → HearsHappening old text before after new
   asked : (number : ℕ) → said_of text ≡ Ok (Target number) → AnswersTarget old number before after new → HearsHappening old text before after new
   heard : (coming : Coming) → HearsTold old text coming → TellsOrDrops old (parts_of coming) before after new → HearsHappening old text before after new

@@ -1,20 +1,23 @@
 //! A host's lines, one after the other.
 ghost use Rattle.std.specs.Prelude.{◌≡◌, ◌≢◌, ◌++◌, List, IfErr, IfOk, OnOk, drop};
 ghost use Rattle.dap_envelope.specs.declared.message.Message.{Message};
-ghost use Rattle.dap_line.specs.Written.{act_lines, message_lines};
+ghost use Rattle.dap_line.specs.Written.{act_lines, lent_lines, message_lines};
 ghost use Rattle.dap_outbox.specs.Draft.{bytes_of};
 ghost use Rattle.dap_plan.specs.declared.fault.AdapterFault.{AdapterFault};
 ghost use Rattle.dap_decision.specs.Table.{is_phase};
 ghost use Rattle.dap_decision.specs.declared.phase.Phase.{Phase};
-ghost use Rattle.dap_host.specs.Hearing.{emit_refusal, mark_of, state_of, drop_of, with_ahead};
+ghost use Rattle.dap_host.specs.Hearing.{emit_refusal, respond_refusal, new_numbers, numbers_in, mark_of, state_of, drop_of, with_ahead};
 ghost use Rattle.dap_json.specs.Writable.{is_plain_tree};
 ghost use Rattle.dap_line.specs.Told.{ahead_with};
 
 use crate::fed::{answer_fed, tell_fed};
+use crate::lending::{numbers_in, push_new};
 use crate::limits::limits_are_in_range;
 use crate::messages::push_messages;
 use crate::offers::{OffersFault, read_offers};
-use dap_adapter::{Adapter, AdapterFault, EmitFault, Phase, bodies_come_one_by_one};
+use dap_adapter::{
+    Adapter, AdapterFault, EmitFault, Lent, Outcome, Phase, RespondFault, bodies_come_one_by_one,
+};
 use dap_debuggee::{Category, State};
 use dap_frame::Limits;
 use dap_json::object_reader::Scratch;
@@ -97,6 +100,19 @@ fn emit_refusal(fault: EmitFault) -> Option<Refusal>
     }
 }
 
+/// Why a lent request is not answered, as a line's refusal; `None` where memory was refused.
+fn respond_refusal(fault: RespondFault) -> Option<Refusal>
+    ensures { result ≡ respond_refusal fault }
+{
+    match fault {
+        RespondFault::Closed => Some(Refusal::Ended),
+        RespondFault::NotLent => Some(Refusal::NotLent),
+        RespondFault::TooLarge => Some(Refusal::BodyTooLong),
+        RespondFault::SeqExhausted => Some(Refusal::SeqExhausted),
+        RespondFault::OutOfMemory => None,
+    }
+}
+
 fn is_ended(phase: Phase) -> bool
     ensures { result ≡ is_phase Phase.Ended phase }
 {
@@ -155,7 +171,7 @@ impl Model for Host {
 
 impl Host {
     ghost use Rattle.std.specs.Prelude.{◌≡◌, ◌≢◌, ◌↔◌, ◌<◌, ◌++◌, ◌∷◌, [], List, ℕ, length, IfOk, IfErr, OnOk, OnErr, IfSome, IsTrue, None, Ok, Err, true, false};
-    ghost use Rattle.dap_host.specs.Hearing.{IsFresh, IsGoing, RefusesMessage, TakesMessage, Comes, HearsTold, IsUnheard, AnswersMessage, dropped_line, TellsIt, TellsUntil, TellsOrDrops, StopsMessage, StopsTelling, StopsWithin, HearsMessage, HearsHappening, EmitsOrRefuses, HearsMarked, StopsMarked, HearsText, Hears, HearsLonger, Halts, RefusesFile, counted};
+    ghost use Rattle.dap_host.specs.Hearing.{IsFresh, IsGoing, RefusesMessage, TakesMessage, Comes, HearsTold, IsUnheard, AnswersMessage, dropped_line, TellsIt, TellsUntil, TellsOrDrops, StopsMessage, StopsTelling, StopsWithin, HearsMessage, HearsHappening, EmitsOrRefuses, AnswersOrRefuses, HearsMarked, StopsMarked, HearsText, Hears, HearsLonger, Halts, RefusesFile, counted};
     ghost use Rattle.dap_host.specs.Parts.{parts_of, outputs, outputs_alone, texts_told};
     ghost use Rattle.dap_line.specs.Moments.{HasRoom};
     ghost use Rattle.dap_live.specs.declared.mail.Coming.TheVariants as news;
@@ -166,13 +182,15 @@ impl Host {
     ghost use Rattle.dap_tables.specs.References.{target_of};
     ghost use Rattle.dap_envelope.specs.declared.message.Message.{Message};
     ghost use Rattle.dap_outbox.specs.Draft.{bytes_of};
+    ghost use Rattle.dap_message.specs.MessageParts.{is_plain_outcome};
+    ghost use Rattle.dap_message.specs.declared.outcome.Outcome.{Outcome};
     ghost use Rattle.dap_plan.specs.Polling.{has_debuggee};
 
     /// A host of a debuggee that is not started. The bytes are a JSON object with the `sources` of a recording; a recording is one,
     /// and what else it has is not looked at. A line may have so many bytes as `longest` says; [`LONGEST_LINE`] has room for the
     /// greatest message.
     ///
-    /// What it offers is what stands at `offers` in the same object, as `read_offers` has it.
+    /// What it offers is what stands at `offers` in the same object, and what is opened at `open`, as `read_offers` has it.
     ///
     /// # Errors
     /// `Sources` with the faults of `Sources::of_file`, and with `OutOfMemory` where memory is refused to the adapter; `Offers` with
@@ -350,10 +368,13 @@ impl Host {
         // For the proof: a body is one message.
         limits_are_in_range(&self.limits);
         bodies_come_one_by_one::<Live>();
+        let Ok(before) = numbers_in(alloc, self.adapter.lent()) else {
+            return Err(AdapterFault::OutOfMemory);
+        };
         let mut bytes = Vec::new(alloc);
         let ahead = std::mem::replace(&mut self.ahead, Ahead::none());
         match answer_fed(alloc, &mut self.adapter, ahead, body, &mut bytes) {
-            Ok(acts) => hand_out(alloc, &bytes, &acts, out),
+            Ok(acts) => hand_out(alloc, &bytes, &acts, &before, self.adapter.lent(), out),
             Err(fault) => Err(break_off(&bytes, fault, out)),
         }
     }
@@ -387,6 +408,7 @@ impl Host {
         match read_said(alloc, &mut self.scratch, text) {
             Ok(Said::Happened(told)) => self.hear_told(alloc, text, told, out),
             Ok(Said::Event { event, body }) => self.emit(alloc, &event, &body, out),
+            Ok(Said::Answer { seq, outcome }) => self.respond(alloc, seq, &outcome, out),
             Ok(Said::OfNext(note)) => {
                 self.keep_note(note);
                 Ok(())
@@ -420,6 +442,35 @@ impl Host {
                 Err(_) => Err(AdapterFault::OutOfMemory),
             },
             Err(fault) => match emit_refusal(fault) {
+                Some(why) => self.refuse(why, out),
+                None => Err(AdapterFault::OutOfMemory),
+            },
+        }
+    }
+
+    /// Lets the adapter answer a lent request, or refuses the line.
+    fn respond(
+        &mut self,
+        alloc: Global,
+        seq: u64,
+        outcome: &Outcome,
+        out: &mut Vec<u8>,
+    ) -> Result<(), AdapterFault>
+        requires going { IsGoing self.old }
+        requires plain { IsTrue (is_plain_outcome outcome.now) }
+        ensures answers { OnOk result (AnswersOrRefuses self.old seq outcome.now out.old.items out.new.items self.new) }
+        ensures going { OnOk result (IsGoing self.new) }
+        ensures memory { IfErr result (λ fault. fault ≡ AdapterFault.OutOfMemory) }
+    {
+        // For the proof: no message is under way.
+        bodies_come_one_by_one::<Live>();
+        let mut bytes = Vec::new(alloc);
+        match self.adapter.respond(alloc, seq, outcome, &mut bytes) {
+            Ok(()) => match push_messages(&bytes, out) {
+                Ok(()) => Ok(()),
+                Err(_) => Err(AdapterFault::OutOfMemory),
+            },
+            Err(fault) => match respond_refusal(fault) {
                 Some(why) => self.refuse(why, out),
                 None => Err(AdapterFault::OutOfMemory),
             },
@@ -662,20 +713,36 @@ impl Host {
     }
 }
 
-/// Appends the lines of what the adapter wrote, and of what the debugger has to do.
+/// Appends the lines of what the debugger has to do, and of the requests that are lent, and were not before.
+fn push_due(
+    alloc: Global,
+    acts: &[HostAct],
+    before: &[u64],
+    lent: Lent<'_>,
+    out: &mut Vec<u8>,
+) -> Result<(), AllocError>
+    ensures { OnOk result (out.new.items ≡ out.old.items ++ (act_lines acts.now ++ lent_lines (new_numbers before.now (numbers_in lent.entry)))) }
+{
+    push_acts(alloc, out, acts)?;
+    push_new(out, before, lent)
+}
+
+/// Appends the lines of what the adapter wrote, and of what the host has to do.
 fn hand_out(
     alloc: Global,
     bytes: &[u8],
     acts: &[HostAct],
+    before: &[u64],
+    lent: Lent<'_>,
     out: &mut Vec<u8>,
 ) -> Result<(), AdapterFault>
-    ensures out { OnOk result ((outs : List Message) → bytes.now ≡ bytes_of outs → out.new.items ≡ out.old.items ++ (message_lines outs ++ act_lines acts.now)) }
+    ensures out { OnOk result ((outs : List Message) → bytes.now ≡ bytes_of outs → out.new.items ≡ out.old.items ++ (message_lines outs ++ (act_lines acts.now ++ lent_lines (new_numbers before.now (numbers_in lent.entry))))) }
     ensures memory { IfErr result (λ fault. fault ≡ AdapterFault.OutOfMemory) }
 {
     if push_messages(bytes, out).is_err() {
         return Err(AdapterFault::OutOfMemory);
     }
-    match push_acts(alloc, out, acts) {
+    match push_due(alloc, acts, before, lent, out) {
         Ok(()) => Ok(()),
         Err(_) => Err(AdapterFault::OutOfMemory),
     }

@@ -11,6 +11,7 @@ mod fetching;
 mod host;
 mod hosting;
 mod laws;
+mod lending;
 mod limits;
 mod messages;
 mod offers;

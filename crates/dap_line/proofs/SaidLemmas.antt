@@ -1,9 +1,9 @@
 -- What a text says is what its JSON says.
-use Rattle.std.proofs.Common.{◌≡◌, ℕ, List, Option, Some, Result, Ok, Err, sym, ap, ◌∙◌, subst}
+use Rattle.std.proofs.Common.{◌≡◌, ℕ, List, Option, Some, Result, Ok, Err, sym, ap, subst}
 use Rattle.serde_json.specs.Data.{Data}
 use Rattle.dap_json.specs.Read.{json_of}
 use Rattle.dap_json.specs.Steps.{Returns}
-use Rattle.dap_line.specs.Told.{Gives, Read, Says, Tells, or_refusal, said_in, said_of, said_or_none}
+use Rattle.dap_line.specs.Told.{Gives, Read, Says, Tells, or_refusal, said_in, said_or_none}
 use Rattle.dap_line.specs.declared.refusal.Refusal.{Refusal}
 use Rattle.dap_line.specs.declared.told.Said.{Said}
 use Rattle.dap_line.specs.declared.told.Unread.{Unread}

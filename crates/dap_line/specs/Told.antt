@@ -1,8 +1,8 @@
 -- What a host tells: which JSON tells what, or the first bad key. The format is this profile's choice; `null` counts as absent.
-use Rattle.std.specs.Prelude.{◌≡◌, ℕ, ℤ, zero, suc, Bool, true, false, List, [], ◌∷◌, ◌++◌, take, codes, bytes_eq, Vec, Option, Some, None, option_and_then, option_map, unwrap_or, Result, Ok, Err, if◌then◌else◌, IsTrue}
+use Rattle.std.specs.Prelude.{◌≡◌, ℕ, zero, suc, true, false, List, [], ◌∷◌, ◌++◌, take, codes, bytes_eq, Vec, Option, Some, None, option_and_then, unwrap_or, Result, Ok, Err, if◌then◌else◌, IsTrue}
 use Rattle.serde_json.specs.Data.{Data, Items, no_items, item}
 use Rattle.serde_json.specs.Find.{as_str, as_bool, as_array}
-use Rattle.dap_json.specs.Numbers.{int_of, number_of}
+use Rattle.dap_json.specs.Numbers.{int_of, number_of, seq_of}
 use Rattle.dap_debuggee.specs.declared.answers.Category.{Category as Place}
 use Rattle.dap_debuggee.specs.declared.answers.Category.TheVariants.{Console, Important, Stdout, Stderr, Telemetry, Other}
 use Rattle.dap_debuggee.specs.declared.answers.Happening.{Happening}
@@ -23,7 +23,7 @@ use Rattle.dap_recording.specs.Pieces.{piece_length}
 use Rattle.dap_recording.specs.Reading.{exit_of}
 use Rattle.dap_line.specs.Written.{host_key_name}
 use Rattle.dap_line.specs.declared.refusal.HostKey.{HostKey}
-use Rattle.dap_line.specs.declared.refusal.HostKey.TheVariants.{Happened, Category, Output, Reason, Thread, Moment, Code, Text, Value, Later, Holder, Variables, Name, Asked, Number, Sources, More, Why, ShowUser, Placed, Refuses, Path, SourceReference, Breakpoints, Line, Verified, Message as Words, Event as EventKey, Body as BodyKey}
+use Rattle.dap_line.specs.declared.refusal.HostKey.TheVariants.{Happened, Category, Output, Reason, Thread, Moment, Code, Text, Value, Later, Holder, Variables, Name, Asked, Number, Sources, More, Why, ShowUser, Placed, Refuses, Path, SourceReference, Breakpoints, Line, Verified, Message as Words, Event as EventKey, Body as BodyKey, Answer}
 use Rattle.dap_line.specs.declared.refusal.Refusal.{Refusal}
 use Rattle.dap_line.specs.declared.refusal.Refusal.TheVariants.{NotJson, BadKey}
 use Rattle.dap_line.specs.declared.told.Kind.{Kind}
@@ -40,6 +40,9 @@ use Rattle.dap_line.specs.declared.told.Unread.{Unread}
 use Rattle.dap_line.specs.declared.told.Unread.TheVariants as unread
 use Rattle.dap_envelope.specs.Meaning.{Msg}
 use Rattle.dap_envelope.specs.declared.message.Message.{Message}
+use Rattle.dap_message.specs.MessageParts.{is_plain_outcome}
+use Rattle.dap_message.specs.declared.outcome.Outcome.{Outcome}
+use Rattle.dap_message.specs.declared.outcome.Outcome.TheVariants.{Success, Failure}
 
 -- bytes that are a message
 pub record IsMessage (body : List ℕ) : Type 0 where
@@ -284,7 +287,21 @@ event_in d = do
   body ← optional_at body_of BodyKey d
   Ok (said.Event name body)
 
--- ---- what is said: what happened, an event, something of the next message, or a question
+-- ---- an answer to a request that is lent
+
+-- it failed where there are words that say why
+abbrev pub outcome_of : Option (List ℕ) → Option Data → Outcome
+outcome_of None body = Success body
+outcome_of (Some message) body = Failure message body
+
+unfoldable pub answer_in : Data → Read Said
+answer_in d = do
+  seq ← required_at seq_of Answer d
+  message ← optional_at as_str Words d
+  body ← optional_at body_of BodyKey d
+  Ok (said.Answer seq (outcome_of message body))
+
+-- ---- what is said: what happened, an event, an answer, something of the next message, or a question
 
 -- that what the next message asks for is refused, and why
 unfoldable pub refusal_in : Data → Read Said
@@ -309,9 +326,14 @@ happened_in d = do
   told ← told_in d
   Ok (said.Happened told)
 
--- a question where there is one, else where breakpoints are, that something is refused, or an event, where that is said, else what happened
+-- an answer counts where nothing happened
+abbrev pub happened_or_answer : Option Data → Option Data → Data → Read Said
+happened_or_answer None (Some answered) d = answer_in d
+happened_or_answer happened answered d = happened_in d
+
+-- a question where there is one, else where breakpoints are, that something is refused, or an event, where that is said, else what happened, or an answer
 abbrev pub said_by : Option Data → Option Data → Option Data → Option Data → Data → Read Said
-said_by None None None None d = happened_in d
+said_by None None None None d = happened_or_answer (value_at Happened d) (value_at Answer d) d
 said_by None None None (Some event) d = event_in d
 said_by None None (Some why) event d = refusal_in d
 said_by None (Some source) refuses event d = placed_in d
@@ -320,9 +342,10 @@ said_by (Some asked) placed refuses event d = asked_in d
 abbrev pub said_in : Data → Read Said
 said_in d = said_by (value_at Asked d) (value_at Placed d) (value_at Refuses d) (value_at EventKey d) d
 
--- the body of an event can be written
+-- the body of an event, or of an answer, can be written
 abbrev pub IsPlainSaid : Said → Type 0
 IsPlainSaid (said.Event name body) = IsTrue (is_plain_tree body)
+IsPlainSaid (said.Answer seq outcome) = IsTrue (is_plain_outcome outcome)
 IsPlainSaid (said.Happened told) = Unit {0}
 IsPlainSaid (said.OfNext note) = Unit {0}
 IsPlainSaid (said.Target number) = Unit {0}

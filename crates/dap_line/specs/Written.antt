@@ -1,4 +1,4 @@
--- The lines that a host is answered with: messages, acts and refusals. All are this profile's choice.
+-- The lines that a host is answered with: messages, acts, numbers of what is lent, and refusals. All are this profile's choice.
 use Rattle.std.specs.Prelude.{ℕ, ℤ, Option, Some, None, List, [], ◌∷◌, ◌++◌, map, codes, decimal}
 use Rattle.std.specs.Fmt.{signed_decimal}
 use Rattle.std.specs.List.{flat_map}
@@ -20,9 +20,9 @@ use Rattle.dap_tables.specs.declared.reference_kind.ReferenceKind.{ReferenceKind
 use Rattle.dap_tables.specs.declared.reference_kind.ReferenceKind.TheVariants.{Frame, Holder as Locals}
 use Rattle.dap_tables.specs.declared.target.Target.{Target}
 use Rattle.dap_line.specs.declared.refusal.HostKey.{HostKey}
-use Rattle.dap_line.specs.declared.refusal.HostKey.TheVariants.{Happened, Category, Output, Reason, Thread, Moment, Code, Text, Value, Later, Holder, Variables, Name, Asked, Number, Sources, More, Why, ShowUser, Placed, Refuses, Path as PathKey, SourceReference, Breakpoints, Line, Verified, Message as Words, Event as EventKey, Body as BodyKey}
+use Rattle.dap_line.specs.declared.refusal.HostKey.TheVariants.{Happened, Category, Output, Reason, Thread, Moment, Code, Text, Value, Later, Holder, Variables, Name, Asked, Number, Sources, More, Why, ShowUser, Placed, Refuses, Path as PathKey, SourceReference, Breakpoints, Line, Verified, Message as Words, Event as EventKey, Body as BodyKey, Answer}
 use Rattle.dap_line.specs.declared.refusal.Refusal.{Refusal}
-use Rattle.dap_line.specs.declared.refusal.Refusal.TheVariants.{TooLong, BadLine, Body, BodyTooLong, Ended, NotJson, BadKey, BadMoment, BadSources, Dropped, SeqExhausted}
+use Rattle.dap_line.specs.declared.refusal.Refusal.TheVariants.{TooLong, BadLine, Body, BodyTooLong, Ended, NotJson, BadKey, BadMoment, BadSources, Dropped, SeqExhausted, NotLent}
 
 -- ---- messages for the client
 
@@ -98,6 +98,15 @@ target_tokens n target = begin_object ∷ (number_member (codes "target") n ++ (
 abbrev pub target_line : ℕ → Option Target → List ℕ
 target_line n target = codes "! " ++ (print (target_tokens n target) ++ codes "\n")
 
+-- ---- requests that are lent
+
+-- a JSON object with its number
+abbrev pub lent_line : ℕ → List ℕ
+lent_line seq = codes "! {\"lent\":" ++ (decimal seq ++ codes "}\n")
+
+abbrev pub lent_lines : List ℕ → List ℕ
+lent_lines numbers = flat_map lent_line numbers
+
 -- ---- refusals
 
 abbrev pub host_key_name : HostKey → List ℕ
@@ -130,6 +139,7 @@ host_key_name Verified = codes "verified"
 host_key_name Words = codes "message"
 host_key_name EventKey = codes "event"
 host_key_name BodyKey = codes "body"
+host_key_name Answer = codes "answer"
 
 abbrev pub dropped_name : Drop → List ℕ
 dropped_name OutOfTurn = codes "OutOfTurn"
@@ -150,6 +160,7 @@ reason_of (BadMoment k) = codes "BadMoment " ++ name_of k
 reason_of (BadSources k) = codes "BadSources " ++ name_of k
 reason_of (Dropped why) = dropped_name why
 reason_of SeqExhausted = codes "SeqExhausted"
+reason_of NotLent = codes "NotLent"
 
 abbrev pub refusal_front : ℕ → List ℕ
 refusal_front n = codes "! {\"refused\":" ++ (decimal n ++ codes ",\"why\":\"")

@@ -5,6 +5,7 @@
 #![tactic(auto)]
 
 mod acts;
+mod lent;
 mod messages;
 mod moments;
 mod places;
@@ -14,6 +15,7 @@ mod targets;
 mod told;
 
 pub use acts::push_acts;
+pub use lent::push_lent;
 pub use messages::push_message;
 pub use moments::coming_of;
 pub use reading::body_refusal;

@@ -40,6 +40,7 @@ pub enum HostKey {
     Message,
     Event,
     Body,
+    Answer,
 }
 
 impl HostKey {
@@ -79,6 +80,7 @@ impl HostKey {
             HostKey::Message => "message",
             HostKey::Event => "event",
             HostKey::Body => "body",
+            HostKey::Answer => "answer",
         }
     }
 }
@@ -106,8 +108,10 @@ pub enum Refusal {
     BadSources(RecordingKey),
     /// It is dropped.
     Dropped(Dropped),
-    /// No own number is left for the event that it tells.
+    /// No own number is left for the event that it tells, or the answer that it gives.
     SeqExhausted,
+    /// It answers a request that is not lent.
+    NotLent,
 }
 
 fn dropped_name(dropped: Dropped) -> &'static str
@@ -147,6 +151,7 @@ fn push_reason(out: &mut Vec<u8>, why: Refusal) -> Result<(), AllocError>
         Refusal::BadSources(key) => push_key(out, b"BadSources ", key.name()),
         Refusal::Dropped(dropped) => out.extend_from_slice(dropped_name(dropped).as_bytes()),
         Refusal::SeqExhausted => out.extend_from_slice(b"SeqExhausted"),
+        Refusal::NotLent => out.extend_from_slice(b"NotLent"),
     }
 }
 

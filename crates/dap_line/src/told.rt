@@ -6,9 +6,10 @@ ghost use Rattle.dap_json.specs.Lent.{lent_data};
 ghost use Rattle.dap_json.specs.More.{more_of};
 ghost use Rattle.dap_json.specs.Numbers.{number_of};
 ghost use Rattle.dap_json.specs.Writable.{is_plain_tree as plain_tree};
+ghost use Rattle.dap_message.specs.MessageParts.{is_plain_outcome};
 ghost use Rattle.dap_recording.specs.Pieces.{piece_length};
 ghost use Rattle.dap_line.specs.Told.{Gives, GivesList, Tells, value_at, required_at, optional_at, category_in as category_in_data, category_named as category_of_name, variable_of, each_variable, variables_of as variables_of_items, variables_in as variables_told, learned_by as learned_of_key, loaded_in as loaded_of};
-ghost use Rattle.dap_line.specs.Told.{output_in as output_of, stop_in as stop_of, continued_in as continued_of, exit_in as exit_of, learned_in as learned_of, no_value_in as no_value_of, text_by as text_of_keys, body_of, event_in as event_of, IsPlainSaid, kind_named as kind_of_name, kind_of, told_in as told_of, happening_of, question_named as question_of_name, question_of, asked_in as asked_of, happened_in as happened_of, explanation_in as explanation_of, refusal_in as refusal_of, said_in as said_of};
+ghost use Rattle.dap_line.specs.Told.{output_in as output_of, stop_in as stop_of, continued_in as continued_of, exit_in as exit_of, learned_in as learned_of, no_value_in as no_value_of, text_by as text_of_keys, body_of, event_in as event_of, outcome_of as outcome_said, answer_in as answer_of, happened_or_answer as happened_or_answer_of, IsPlainSaid, kind_named as kind_of_name, kind_of, told_in as told_of, happening_of, question_named as question_of_name, question_of, asked_in as asked_of, happened_in as happened_of, explanation_in as explanation_of, refusal_in as refusal_of, said_in as said_of};
 ghost use Rattle.std.specs.Option.{is_some};
 
 use crate::places::placed_in;
@@ -16,10 +17,12 @@ use crate::reading::read_value;
 use crate::refusal::{HostKey, Refusal};
 use dap_debuggee::{Category, Explanation, Happening, Variable};
 use dap_envelope::is_plain_tree;
+use dap_json::numbers::whole;
 use dap_json::object_reader::Scratch;
 use dap_json::property::Property;
 use dap_json::{List, More, ParseFault, Text, Tree, field};
 use dap_live::{Ahead, Placed};
+use dap_message::Outcome;
 use dap_recording::{numbers, piece_length};
 use serde_json::Value;
 use std::alloc::{AllocError, AllocFailed, Global};
@@ -88,12 +91,14 @@ impl Note {
     }
 }
 
-/// What a host says: what it tells, an event, something of the next message, or a question.
+/// What a host says: what it tells, an event, an answer, something of the next message, or a question.
 #[derive(Drop)]
 pub enum Said {
     Happened(Told),
     /// An event that is told by its name, with a body that can be written.
     Event { event: Text, body: Option<Tree> },
+    /// An answer to the lent request with this number.
+    Answer { seq: u64, outcome: Outcome },
     OfNext(Note),
     /// What a number of the client names.
     Target(u32),
@@ -479,31 +484,65 @@ fn refusal_in(alloc: Global, said: &Value) -> Result<Said, Unread>
     Ok(Said::OfNext(Note::Refuses(why)))
 }
 
-/// The body of an event, where there is one.
-fn body_in(alloc: Global, said: &Value) -> Result<Result<Option<Tree>, HostKey>, AllocError>
-    ensures read { IfOk result (λ body. body ≡ optional_at body_of HostKey.Body (view said.now)) }
-    ensures plain { IfOk result (λ body. IfOk body (λ tree. IsTrue (plain_tree tree))) }
+/// The body of an event or an answer, where there is one.
+fn body_in(said: &mut Value) -> Result<Option<Tree>, HostKey>
+    ensures read { result ≡ optional_at body_of HostKey.Body (view said.old) }
+    ensures plain { IfOk result (λ body. IsTrue (plain_tree body)) }
 {
-    let Some(found) = at(said, HostKey::Body).found else {
-        return Ok(Ok(None));
-    };
-    let body = Some(Tree::shared(alloc, found.clone()?));
+    let body = field::take_tree(said, HostKey::Body.name());
     if !is_plain_tree(&body) {
-        return Ok(Err(HostKey::Body));
+        return Err(HostKey::Body);
     }
-    Ok(Ok(body))
+    Ok(body)
 }
 
 /// An event that is told by its name.
 #[tactic(auto, unfolding(crate::specs::Told::event_in))]
-fn event_in(alloc: Global, said: &Value) -> Result<Said, Unread>
-    ensures gives { Gives result (event_of (view said.now)) }
+fn event_in(alloc: Global, said: &mut Value) -> Result<Said, Unread>
+    ensures gives { Gives result (event_of (view said.old)) }
     ensures plain { IfOk result IsPlainSaid }
 {
     let event = text_at(alloc, said, HostKey::Event)?;
-    let read = body_in(alloc, said)?;
-    let body = read?;
+    let body = body_in(said)?;
     Ok(Said::Event { event, body })
+}
+
+/// The words that say why a request failed, where there are some.
+fn message_in(alloc: Global, said: &Value) -> Result<Option<Text>, Unread>
+    ensures { Gives result (optional_at as_str HostKey.Message (view said.now)) }
+{
+    match at(said, HostKey::Message).optional_text()? {
+        None => Ok(None),
+        Some(text) => Ok(Some(Text::copied(alloc, text)?)),
+    }
+}
+
+/// How a request came out: it failed where there are words that say why.
+fn outcome_of(message: Option<Text>, body: Option<Tree>) -> Outcome
+    requires plain { IsTrue (plain_tree body) }
+    ensures outcome { result ≡ outcome_said message body }
+    ensures plain { IsTrue (is_plain_outcome result) }
+{
+    match message {
+        None => Outcome::Success(body),
+        Some(message) => Outcome::Failure { message, body },
+    }
+}
+
+/// An answer to a request that is lent.
+#[tactic(auto, unfolding(crate::specs::Told::answer_in))]
+fn answer_in(alloc: Global, said: &mut Value) -> Result<Said, Unread>
+    ensures gives { Gives result (answer_of (view said.old)) }
+    ensures plain { IfOk result IsPlainSaid }
+{
+    let seq = at(said, HostKey::Answer)
+        .found
+        .and_then(whole)
+        .ok_or(HostKey::Answer)?;
+    let message = message_in(alloc, said)?;
+    let body = body_in(said)?;
+    let outcome = outcome_of(message, body);
+    Ok(Said::Answer { seq, outcome })
 }
 
 /// Whether something stands at a key.
@@ -513,8 +552,19 @@ fn is_there(said: &Value, key: HostKey) -> bool
     at(said, key).found.is_some()
 }
 
+/// What happened, or, where nothing did, an answer.
+fn happened_or_answer(alloc: Global, said: &mut Value) -> Result<Said, Unread>
+    ensures gives { Gives result (happened_or_answer_of (value_at HostKey.Happened (view said.old)) (value_at HostKey.Answer (view said.old)) (view said.old)) }
+    ensures plain { IfOk result IsPlainSaid }
+{
+    if is_there(said, HostKey::Answer) && !is_there(said, HostKey::Happened) {
+        return answer_in(alloc, said);
+    }
+    happened_in(alloc, said)
+}
+
 /// What is said: a question where there is one, else what is said of the next message, where breakpoints are or that it is
-/// refused, else an event, else what happened.
+/// refused, else an event, else what happened, or an answer.
 fn said_in(alloc: Global, said: &mut Value) -> Result<Said, Unread>
     ensures gives { Gives result (said_of (view said.old)) }
     ensures plain { IfOk result IsPlainSaid }
@@ -531,7 +581,7 @@ fn said_in(alloc: Global, said: &mut Value) -> Result<Said, Unread>
     if is_there(said, HostKey::Event) {
         return event_in(alloc, said);
     }
-    happened_in(alloc, said)
+    happened_or_answer(alloc, said)
 }
 
 /// What the JSON text of a host says.

@@ -1,7 +1,7 @@
 use Rattle.std.proofs.Common.{Ok, refl, subst, ap, ◌∙◌, ◌++◌}
 use Rattle.std.proofs.lemmas.Result.{on_ok_weaker}
 use Rattle.dap_tables.specs.References.{target_of}
-use Rattle.dap_host.specs.Hearing.{HostState, EmitsOrRefuses, with_ahead, not_heard, noted, emitted, asked, unread}
+use Rattle.dap_host.specs.Hearing.{HostState, EmitsOrRefuses, AnswersOrRefuses, with_ahead, not_heard, noted, emitted, lent_answered, asked, unread}
 use Rattle.dap_host.proofs.GoingLemmas.{going_ahead}
 use Rattle.dap_line.specs.Told.{said_of, Says, ahead_with}
 use Rattle.dap_line.specs.Written.{refusal_line, target_line}
@@ -38,3 +38,8 @@ pub returns-in-Ok-Event-clause-hears : goal.returns-in-Ok-Event-clause-hears
 returns-in-Ok-Event-clause-hears c =
     on_ok_weaker c.emit.result (λ e. emitted c.in-Ok-Event.event c.in-Ok-Event.body (c.in-Ok-Event.ensures.tells ∙ ap (λ (z : Said). Ok z) c.in-Ok-Event.field-0-is)
     (subst (λ (z : HostState). EmitsOrRefuses z c.in-Ok-Event.event c.in-Ok-Event.body c.args.out.now.items c.emit.new.out.items c.emit.new.self) c.self.view_is (rw (c.in-Ok-Event.event-is, c.in-Ok-Event.body-is) at e))) c.emit.ensures.emits
+
+pub returns-in-Ok-Answer-clause-hears : goal.returns-in-Ok-Answer-clause-hears
+returns-in-Ok-Answer-clause-hears c =
+    on_ok_weaker c.respond.result (λ a. lent_answered c.in-Ok-Answer.seq c.in-Ok-Answer.outcome (c.in-Ok-Answer.ensures.tells ∙ ap (λ (z : Said). Ok z) c.in-Ok-Answer.field-0-is)
+    (subst (λ (z : HostState). AnswersOrRefuses z c.in-Ok-Answer.seq c.in-Ok-Answer.outcome c.args.out.now.items c.respond.new.out.items c.respond.new.self) c.self.view_is (rw (c.in-Ok-Answer.seq-is, c.in-Ok-Answer.outcome-is) at a))) c.respond.ensures.answers
