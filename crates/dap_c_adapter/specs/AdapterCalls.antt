@@ -1,15 +1,19 @@
 -- What the exports of an adapter do, in the words of dap_adapter, over the adapter behind the handle and a debuggee that the
 -- host feeds.
-use Rattle.std.specs.Prelude.{◌≡◌, ◌⊎◌, ℕ, zero, suc, ℤ, List, [], ◌++◌, length, take, Bool, false, Option, Some, None, Result, Ok, Err, is_some, option_and_then, if◌then◌else◌}
+use Rattle.std.specs.Prelude.{◌≡◌, ◌⊎◌, ℕ, zero, suc, ℤ, List, [], ◌∷◌, ◌++◌, codes, length, take, Bool, false, Option, Some, None, Result, Ok, Err, is_some, option_and_then, if◌then◌else◌}
 use Rattle.dap_json.specs.declared.more.Member.{Member}
 use Rattle.dap_debuggee.specs.declared.answers.Category.{Category}
 use Rattle.dap_debuggee.specs.declared.answers.Category.TheVariants.{Console, Important, Stdout, Stderr, Telemetry}
 use Rattle.dap_debuggee.specs.declared.answers.Variable.{Variable}
 use Rattle.dap_envelope.specs.declared.message.Message.{Message}
-use Rattle.dap_command.specs.Offer.{offer_in}
+use Rattle.dap_command.specs.Offer.{opened_offer_in}
+use Rattle.dap_command.specs.Opening.{opening_in}
 use Rattle.dap_command.specs.declared.offer.Offer.{Offer}
 use Rattle.dap_command.specs.declared.offer.OfferFault.{OfferFault}
 use Rattle.dap_command.specs.declared.offer.OfferFault.TheVariants.{NotObject}
+use Rattle.dap_command.specs.declared.opening.Opened.{Opened}
+use Rattle.dap_command.specs.declared.opening.OpeningFault.{OpeningFault}
+use Rattle.dap_command.specs.declared.opening.OpeningFault.TheVariants.{NotList}
 use Rattle.dap_frame.specs.Settings.{Settings}
 use Rattle.dap_plan.specs.Session.{Session, opened_session, offers_fit}
 use Rattle.serde_json.specs.Data.{Data}
@@ -144,6 +148,10 @@ pub record RefusesPoll (told : Coming) (old new : HeldAdapter) (code : ℕ) (fou
   pub held : new.adapter.intake.held ≡ []
   pub none_written : new.bytes.items ≡ []
 
+-- arguments that are none, or memory that was refused, as a code
+abbrev pub IsCodeOfArguments : ℕ → Type 0
+IsCodeOfArguments code = (code ≡ 103) ⊎ (code ≡ 104)
+
 -- a moment or sources that are none, or memory that was refused, as a code
 abbrev pub IsCodeOfRecording : ℕ → Type 0
 IsCodeOfRecording code = (code ≡ 107) ⊎ (code ≡ 104)
@@ -152,20 +160,44 @@ IsCodeOfRecording code = (code ≡ 107) ⊎ (code ≡ 104)
 abbrev pub IsCodeOfText : ℕ → Type 0
 IsCodeOfText code = (code ≡ 103) ⊎ IsCodeOfRecording code
 
--- what JSON offers
-abbrev pub offered_by : Option Data → Result Offer OfferFault
-offered_by None = Err NotObject
-offered_by (Some d) = offer_in d
+-- what JSON offers, with these commands opened
+abbrev pub offered_by : List Opened → Option Data → Result Offer OfferFault
+offered_by opened None = Err NotObject
+offered_by opened (Some d) = opened_offer_in opened d
 
--- an adapter that offers what JSON says, to which nothing came
-pub record IsOpenedWith (limits : Settings) (json : Option Data) (session : Session) : Type 0 where
+-- an adapter that offers what JSON says, with these commands opened, to which nothing came
+pub record IsOpenedWith (limits : Settings) (opened : List Opened) (json : Option Data) (session : Session) : Type 0 where
   pub offers : Offer
-  pub read : offered_by json ≡ Ok offers
+  pub read : offered_by opened json ≡ Ok offers
   pub is : session ≡ opened_session limits offers
 
--- it says what can't be offered, or what does not fit
-abbrev pub OffersNothing : Settings → Option Data → Type 0
-OffersNothing limits json = (offers : Offer) → offered_by json ≡ Ok offers → offers_fit limits offers ≡ false
+-- it says what can't be offered then, or what does not fit
+abbrev pub OffersNothing : Settings → List Opened → Option Data → Type 0
+OffersNothing limits opened json = (offers : Offer) → offered_by opened json ≡ Ok offers → offers_fit limits offers ≡ false
+
+-- the commands that JSON lists, to be opened
+abbrev pub listed_by : Option Data → Result (List Opened) OpeningFault
+listed_by None = Err NotList
+listed_by (Some d) = opening_in d
+
+-- it is no list of commands that can be opened
+abbrev pub ListsNothing : Option Data → Type 0
+ListsNothing commands = (opened : List Opened) → listed_by commands ≡ Ok opened → ⊥
+
+-- the same adapter, with the commands opened that JSON lists
+pub record IsOpenedFor (limits : Settings) (commands json : Option Data) (session : Session) : Type 0 where
+  pub opened : List Opened
+  pub listed : listed_by commands ≡ Ok opened
+  pub is : IsOpenedWith limits opened json session
+
+-- they can't be opened, or what can't be offered with them is offered
+abbrev pub OpensNothing : Settings → Option Data → Option Data → Type 0
+OpensNothing limits commands json = (opened : List Opened) → listed_by commands ≡ Ok opened → OffersNothing limits opened json
+
+-- no bytes say no more than an empty object does
+abbrev pub or_braces : List ℕ → List ℕ
+or_braces [] = codes "{}"
+or_braces (b ∷ bytes) = b ∷ bytes
 
 -- the same, or limits that are out of their ranges
 abbrev pub IsCodeOfOpen : ℕ → Type 0

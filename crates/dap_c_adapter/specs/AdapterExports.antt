@@ -21,7 +21,7 @@ use Rattle.dap_c_adapter.specs.AdapterBehind.{FromTo}
 use Rattle.dap_line.specs.Told.{category_named}
 use Rattle.dap_live.specs.MailState.{with_ahead}
 use Rattle.std.specs.Option.{IsSome}
-use Rattle.dap_c_adapter.specs.AdapterCalls.{IsOpenedOver, IsOpenedWith, AdapterTakes, RefusesAdapterPiece, IsAdapterAsBefore, AdapterTurns, RefusesTurn, Tells, IsStop, moment_over, over_mail, AreSources, IsCodeOfText, category_of, variable_told, variable_with, acts_due}
+use Rattle.dap_c_adapter.specs.AdapterCalls.{IsOpenedOver, IsOpenedWith, IsOpenedFor, or_braces, AdapterTakes, RefusesAdapterPiece, IsAdapterAsBefore, AdapterTurns, RefusesTurn, Tells, IsStop, moment_over, over_mail, AreSources, IsCodeOfText, category_of, variable_told, variable_with, acts_due}
 use Rattle.dap_c_adapter.specs.Ahead.{ahead_by}
 use Rattle.dap_c_adapter.specs.Beside.{CanBeSaid, said_by}
 use Rattle.dap_c_adapter.specs.AdapterFaults.{adapter_number, IsAdapterFaultFound}
@@ -40,7 +40,11 @@ IsFreshWithin limits h = h.adapter.session ≡ fresh_session (settings_of limits
 
 -- the same, which offers what these bytes say
 abbrev pub IsFreshOffering : YtLimits → List ℕ → HeldAdapter → Type 0
-IsFreshOffering limits offers h = IsOpenedWith (settings_of limits) (json_of offers) h.adapter.session
+IsFreshOffering limits offers h = IsOpenedWith (settings_of limits) [] (json_of offers) h.adapter.session
+
+-- the same, with the commands opened that these bytes list
+abbrev pub IsFreshOpening : YtLimits → List ℕ → List ℕ → HeldAdapter → Type 0
+IsFreshOpening limits offers commands h = IsOpenedFor (settings_of limits) (json_of commands) (json_of (or_braces offers)) h.adapter.session
 
 -- over the sources of a file
 abbrev pub OpensOver : List ℕ → HeldAdapter → Type 0
@@ -225,10 +229,6 @@ CanBeAhead bytes = IsSome (ahead_by bytes)
 abbrev pub SaysAhead : List ℕ → ℕ → HeldAdapter → HeldAdapter → Type 0
 SaysAhead bytes code old new =
     code ≡ 0 → CanBeAhead bytes × IfSome (ahead_by bytes) (λ ahead. new.adapter ≡ over_mail (with_ahead ahead old.adapter.debuggee.mail) old.adapter)
-
--- it says neither, or memory was refused
-abbrev pub IsCodeOfAhead : ℕ → Type 0
-IsCodeOfAhead code = (code ≡ 103) ⊎ (code ≡ 104)
 
 -- ---- acts
 

@@ -1,5 +1,5 @@
 -- Events that a host in C tells by their names.
-use Rattle.std.specs.Prelude.{◌≡◌, ◌⊎◌, ℕ, List, [], ◌∷◌, Option, Some, None, option_and_then, IfSome, if◌then◌else◌}
+use Rattle.std.specs.Prelude.{◌≡◌, ℕ, List, [], ◌∷◌, Option, Some, None, option_and_then, IfSome, if◌then◌else◌}
 use Rattle.std.specs.Option.{IsSome}
 use Rattle.serde_json.specs.Data.{Data}
 use Rattle.dap_json.specs.Read.{json_of}
@@ -34,7 +34,3 @@ EmitsNamed event body code old new = code ≡ 0 → IsSome (body_by body) × IfS
 abbrev pub RefusesNamed : List ℕ → List ℕ → ℕ → HeldAdapter → HeldAdapter → Type 0
 RefusesNamed event body code old new =
     (code ≡ 0 → ⊥) → (code ≡ 103 → ⊥) → (code ≡ 104 → ⊥) → IfSome (body_by body) (λ given. (f : EmitFault) × (code ≡ emit_number f) × NotEmitted event given old.adapter f)
-
--- it is no body, or memory was refused
-abbrev pub IsCodeOfBody : ℕ → Type 0
-IsCodeOfBody code = (code ≡ 103) ⊎ (code ≡ 104)

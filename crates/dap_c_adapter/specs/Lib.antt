@@ -7,3 +7,4 @@ pub mod AdapterSeen
 pub mod Ahead
 pub mod Beside
 pub mod Emitting
+pub mod Lending

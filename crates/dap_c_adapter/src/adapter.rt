@@ -8,17 +8,18 @@ ghost use Rattle.dap_frame.specs.Settings.{first_outside};
 ghost use Rattle.dap_decision.specs.Table.{is_phase};
 ghost use Rattle.dap_decision.specs.declared.phase.Phase.TheVariants.{Asked};
 ghost use Rattle.dap_json.specs.Read.{json_of};
+ghost use Rattle.serde_json.specs.View.{view};
 ghost use Rattle.dap_plan.specs.Session.{fresh_session, offers_fit, oldest};
 ghost use Rattle.dap_plan.specs.declared.fault.AdapterFault.{AdapterFault as TheFault};
 ghost use Rattle.dap_adapter.specs.StandsFor.{StandsFor};
 ghost use Rattle.dap_live.specs.LiveShown.{fresh_live};
-ghost use Rattle.dap_c_adapter.specs.AdapterCalls.{AdapterTakes, RefusesAdapterPiece, IsAdapterAsBefore, AdapterTurns, RefusesTurn, frame_so_far, IsCodeOfOpen, IsCodeOfOpenWith, IsOpenedOver, IsOpenedWith, OffersNothing, offered_by, HasNoSources, HasNothing, KeepsActs};
+ghost use Rattle.dap_c_adapter.specs.AdapterCalls.{AdapterTakes, RefusesAdapterPiece, IsAdapterAsBefore, AdapterTurns, RefusesTurn, frame_so_far, IsCodeOfArguments, IsCodeOfOpen, IsCodeOfOpenWith, IsCodeOfText, IsOpenedOver, IsOpenedWith, IsOpenedFor, OffersNothing, OpensNothing, ListsNothing, listed_by, offered_by, or_braces, HasNoSources, HasNothing, KeepsActs};
 ghost use Rattle.dap_c_adapter.specs.AdapterFaults.{adapter_number, IsAdapterFaultFound};
 ghost use Rattle.dap_c_parts.specs.Finds.{FindsNothing};
 ghost use Rattle.dap_c_parts.specs.Limited.{settings_of, AreOutOfRange};
 ghost use Rattle.dap_c_parts.specs.Buffer.{StaysIfSmall};
 ghost use Rattle.dap_c_adapter.specs.AdapterBehind.{IsFull, IsEmpty, IfFull, FromTo, FromEmpty};
-ghost use Rattle.dap_c_adapter.specs.AdapterExports.{IsFreshWithin, IsFreshOffering, OpensOver, KeepsAdapter, KeepsLimits, KeepsTables, KeepsFrame, LeavesBytes, TakesPiece, RefusesPiece, LeavesDebuggee, LeavesUnasked, LeavesNothing, LatchesFault, MakesTurn, StaysOpen, MakesNoTurn, WritesNothing, IdlesIfNoneWaits, LatchesAndTells, PutsBytes, PutsFrame, HasNoFrame};
+ghost use Rattle.dap_c_adapter.specs.AdapterExports.{IsFreshWithin, IsFreshOffering, IsFreshOpening, OpensOver, KeepsAdapter, KeepsLimits, KeepsTables, KeepsFrame, LeavesBytes, TakesPiece, RefusesPiece, LeavesDebuggee, LeavesUnasked, LeavesNothing, LatchesFault, MakesTurn, StaysOpen, MakesNoTurn, WritesNothing, IdlesIfNoneWaits, LatchesAndTells, PutsBytes, PutsFrame, HasNoFrame};
 
 use crate::adapter_handle::YtAdapter;
 use crate::held_adapter::HeldAdapter;
@@ -29,11 +30,13 @@ use dap_c_parts::codes::*;
 use dap_c_parts::copying::put;
 use dap_c_parts::found::{YtFound, fault_at, nothing_found};
 use dap_c_parts::limits::{self, YtLimits};
+use dap_command::{Opening, OpeningFault};
 use dap_frame::Limits;
 use dap_json::ParseFault;
 use dap_live::Live;
 use dap_recording::Sources;
 use dap_slot::{handle_of, take_out};
+use serde_json::Value;
 use std::alloc::Global;
 
 /// The adapter over a debuggee with these sources.
@@ -71,19 +74,28 @@ fn opened(alloc: Global, limits: &YtLimits, base: &[u8]) -> Result<Box<HeldAdapt
     boxed(alloc, adapter)
 }
 
-/// What JSON offers, which fits.
-fn offers_given(alloc: Global, limits: Limits, given: &[u8]) -> Result<Offer, u32>
-    ensures read { IfOk result (λ offers. offered_by (json_of given.now) ≡ Ok offers) }
-    ensures fit { IfOk result (λ offers. offers_fit limits offers ≡ true) }
-    ensures refused { IfErr result (λ code. code ≡ YT_BAD_ARGUMENTS → OffersNothing limits (json_of given.now)) }
-    ensures code { IfErr result (λ code. (code ≡ YT_BAD_ARGUMENTS) ⊎ (code ≡ YT_NO_MEMORY)) }
+/// What JSON bytes are.
+pub(crate) fn json_given(alloc: Global, bytes: &[u8]) -> Result<Value, u32>
+    ensures read { IfOk result (λ value. json_of bytes.now ≡ Some (view value)) }
+    ensures refused { IfErr result (λ code. code ≡ YT_BAD_ARGUMENTS → json_of bytes.now ≡ None) }
+    ensures code { IfErr result IsCodeOfArguments }
 {
-    let given = match dap_json::parse(alloc, given) {
-        Ok(given) => given,
-        Err(ParseFault::NotJson) => return Err(YT_BAD_ARGUMENTS),
-        Err(ParseFault::OutOfMemory) => return Err(YT_NO_MEMORY),
-    };
-    let offers = match Offer::read(alloc, &given) {
+    match dap_json::parse(alloc, bytes) {
+        Ok(value) => Ok(value),
+        Err(ParseFault::NotJson) => Err(YT_BAD_ARGUMENTS),
+        Err(ParseFault::OutOfMemory) => Err(YT_NO_MEMORY),
+    }
+}
+
+/// What JSON offers, which fits, with these commands opened.
+fn offers_given(alloc: Global, limits: Limits, opened: Opening, given: &[u8]) -> Result<Offer, u32>
+    ensures read { IfOk result (λ offers. offered_by opened (json_of given.now) ≡ Ok offers) }
+    ensures fit { IfOk result (λ offers. offers_fit limits offers ≡ true) }
+    ensures refused { IfErr result (λ code. code ≡ YT_BAD_ARGUMENTS → OffersNothing limits opened (json_of given.now)) }
+    ensures code { IfErr result IsCodeOfArguments }
+{
+    let given = json_given(alloc, given)?;
+    let offers = match Offer::read_opening(alloc, &given, opened) {
         Ok(offers) => offers,
         Err(OfferFault::OutOfMemory) => return Err(YT_NO_MEMORY),
         Err(_) => return Err(YT_BAD_ARGUMENTS),
@@ -95,32 +107,96 @@ fn offers_given(alloc: Global, limits: Limits, given: &[u8]) -> Result<Offer, u3
     }
 }
 
+/// The commands that JSON lists.
+fn commands_given(alloc: Global, given: &[u8]) -> Result<Opening, u32>
+    ensures read { IfOk result (λ opened. listed_by (json_of given.now) ≡ Ok opened) }
+    ensures refused { IfErr result (λ code. code ≡ YT_BAD_ARGUMENTS → ListsNothing (json_of given.now)) }
+    ensures code { IfErr result IsCodeOfArguments }
+{
+    let given = json_given(alloc, given)?;
+    match Opening::read(alloc, &given) {
+        Ok(opened) => Ok(opened),
+        Err(OpeningFault::OutOfMemory) => Err(YT_NO_MEMORY),
+        Err(_) => Err(YT_BAD_ARGUMENTS),
+    }
+}
+
+/// An adapter over the sources of a file, which offers what JSON says, with these commands opened.
+fn opened_offering(
+    alloc: Global,
+    limits: Limits,
+    base: &[u8],
+    opened: Opening,
+    offers: &[u8],
+) -> Result<Box<HeldAdapter>, u32>
+    ensures session { IfOk result (λ b. IsOpenedWith limits opened (json_of offers.now) b.value.adapter.session) }
+    ensures fault { IfOk result (λ b. b.value.adapter.fault ≡ None) }
+    ensures debuggee { IfOk result (λ b. IsOpenedOver (json_of base.now) b.value.adapter.debuggee) }
+    ensures stands { IfOk result (λ b. StandsFor b.value.adapter [] []) }
+    ensures nothing { IfOk result (λ b. HasNothing b.value) }
+    ensures no_recording { IfErr result (λ code. code ≡ YT_BAD_RECORDING → HasNoSources (json_of base.now)) }
+    ensures no_offer { IfErr result (λ code. code ≡ YT_BAD_ARGUMENTS → OffersNothing limits opened (json_of offers.now)) }
+    ensures code { IfErr result IsCodeOfText }
+{
+    let given = sources_given(alloc, base)?;
+    let offers = offers_given(alloc, limits, opened, offers)?;
+    match Adapter::open_with(alloc, limits, Live::open(alloc, given), offers) {
+        Ok(adapter) => boxed(alloc, adapter),
+        Err(_) => Err(YT_NO_MEMORY),
+    }
+}
+
 fn opened_with(
     alloc: Global,
     limits: &YtLimits,
     base: &[u8],
     offers: &[u8],
 ) -> Result<Box<HeldAdapter>, u32>
-    ensures session { IfOk result (λ b. IsOpenedWith (settings_of limits.now) (json_of offers.now) b.value.adapter.session) }
+    ensures session { IfOk result (λ b. IsOpenedWith (settings_of limits.now) [] (json_of offers.now) b.value.adapter.session) }
     ensures fault { IfOk result (λ b. b.value.adapter.fault ≡ None) }
     ensures debuggee { IfOk result (λ b. IsOpenedOver (json_of base.now) b.value.adapter.debuggee) }
     ensures stands { IfOk result (λ b. StandsFor b.value.adapter [] []) }
     ensures nothing { IfOk result (λ b. HasNothing b.value) }
     ensures refused { IfErr result (λ code. code ≡ YT_BAD_LIMITS → IsSome (first_outside (settings_of limits.now))) }
     ensures no_recording { IfErr result (λ code. code ≡ YT_BAD_RECORDING → HasNoSources (json_of base.now)) }
-    ensures no_offer { IfErr result (λ code. code ≡ YT_BAD_ARGUMENTS → OffersNothing (settings_of limits.now) (json_of offers.now)) }
+    ensures no_offer { IfErr result (λ code. code ≡ YT_BAD_ARGUMENTS → OffersNothing (settings_of limits.now) [] (json_of offers.now)) }
     ensures code { IfErr result IsCodeOfOpenWith }
 {
-    let limits = match limits::read(limits) {
-        Ok(limits) => limits,
-        Err(_) => return Err(YT_BAD_LIMITS),
-    };
-    let given = sources_given(alloc, base)?;
-    let offers = offers_given(alloc, limits, offers)?;
-    match Adapter::open_with(alloc, limits, Live::open(alloc, given), offers) {
-        Ok(adapter) => boxed(alloc, adapter),
-        Err(_) => Err(YT_NO_MEMORY),
+    match limits::read(limits) {
+        Ok(limits) => opened_offering(alloc, limits, base, Opening::none(), offers),
+        Err(_) => Err(YT_BAD_LIMITS),
     }
+}
+
+/// No bytes say no more than an empty object does.
+fn or_braces(offers: &[u8]) -> &[u8]
+    ensures { result.now ≡ or_braces offers.now }
+{
+    if offers.is_empty() { b"{}" } else { offers }
+}
+
+fn opened_for(
+    alloc: Global,
+    limits: &YtLimits,
+    base: &[u8],
+    offers: &[u8],
+    commands: &[u8],
+) -> Result<Box<HeldAdapter>, u32>
+    ensures session { IfOk result (λ b. IsOpenedFor (settings_of limits.now) (json_of commands.now) (json_of (or_braces offers.now)) b.value.adapter.session) }
+    ensures fault { IfOk result (λ b. b.value.adapter.fault ≡ None) }
+    ensures debuggee { IfOk result (λ b. IsOpenedOver (json_of base.now) b.value.adapter.debuggee) }
+    ensures stands { IfOk result (λ b. StandsFor b.value.adapter [] []) }
+    ensures nothing { IfOk result (λ b. HasNothing b.value) }
+    ensures refused { IfErr result (λ code. code ≡ YT_BAD_LIMITS → IsSome (first_outside (settings_of limits.now))) }
+    ensures no_recording { IfErr result (λ code. code ≡ YT_BAD_RECORDING → HasNoSources (json_of base.now)) }
+    ensures no_offer { IfErr result (λ code. code ≡ YT_BAD_ARGUMENTS → OpensNothing (settings_of limits.now) (json_of commands.now) (json_of (or_braces offers.now))) }
+    ensures code { IfErr result IsCodeOfOpenWith }
+{
+    let Ok(limits) = limits::read(limits) else {
+        return Err(YT_BAD_LIMITS);
+    };
+    let opened = commands_given(alloc, commands)?;
+    opened_offering(alloc, limits, base, opened, or_braces(offers))
 }
 
 fn boxed(alloc: Global, adapter: Adapter<Live>) -> Result<Box<HeldAdapter>, u32>
@@ -196,11 +272,47 @@ pub extern "C" fn yt_adapter_open_with(
     ensures nothing { IfFull adapter.new HasNothing }
     ensures refused { result ≡ YT_BAD_LIMITS → AreOutOfRange limits.now }
     ensures no_recording { result ≡ YT_BAD_RECORDING → HasNoSources (json_of base.now) }
-    ensures no_offer { result ≡ YT_BAD_ARGUMENTS → OffersNothing (settings_of limits.now) (json_of offers.now) }
+    ensures no_offer { result ≡ YT_BAD_ARGUMENTS → OffersNothing (settings_of limits.now) [] (json_of offers.now) }
     ensures codes { result ≢ YT_OK → IsCodeOfOpenWith result }
 {
     take_out(alloc, adapter);
     match opened_with(alloc, limits, base, offers) {
+        Ok(held) => {
+            *adapter = handle_of(held);
+            YT_OK
+        }
+        Err(code) => code,
+    }
+}
+
+/// Opens an adapter as `yt_adapter_open_with` does, and with it commands that are never served, which the caller answers:
+/// `commands` is a JSON list of their names, or of objects with the name at `name` and, at `inStops`, whether it is of stops alone
+/// (docs/PROFILE.md, "Commands of one's own"). Where `offers` has no bytes, all that is served is offered. `YT_BAD_ARGUMENTS` where
+/// `commands` is no such list, or a name can't be opened or comes twice; and for offers as in `yt_adapter_open_with`, but that a
+/// flag of commands that are all opened has to be `true` where it is there.
+#[unsafe(no_mangle)]
+pub extern "C" fn yt_adapter_open_commands(
+    alloc: Global,
+    adapter: &mut YtAdapter,
+    limits: &YtLimits,
+    base: &[u8],
+    offers: &[u8],
+    commands: &[u8],
+) -> u32
+    ensures open { result ≡ YT_OK → IsFull adapter.new }
+    ensures closed { result ≢ YT_OK → IsEmpty adapter.new }
+    ensures session { IfFull adapter.new (IsFreshOpening limits.now offers.now commands.now) }
+    ensures fault { IfFull adapter.new (λ a. a.adapter.fault ≡ None) }
+    ensures debuggee { IfFull adapter.new (OpensOver base.now) }
+    ensures stands { IfFull adapter.new (λ a. StandsFor a.adapter [] []) }
+    ensures nothing { IfFull adapter.new HasNothing }
+    ensures refused { result ≡ YT_BAD_LIMITS → AreOutOfRange limits.now }
+    ensures no_recording { result ≡ YT_BAD_RECORDING → HasNoSources (json_of base.now) }
+    ensures no_offer { result ≡ YT_BAD_ARGUMENTS → OpensNothing (settings_of limits.now) (json_of commands.now) (json_of (or_braces offers.now)) }
+    ensures codes { result ≢ YT_OK → IsCodeOfOpenWith result }
+{
+    take_out(alloc, adapter);
+    match opened_for(alloc, limits, base, offers, commands) {
         Ok(held) => {
             *adapter = handle_of(held);
             YT_OK

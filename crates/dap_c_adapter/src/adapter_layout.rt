@@ -4,6 +4,7 @@ ghost use Rattle.std.specs.Prelude.{◌≡◌};
 use crate::acts::YtAct;
 use crate::adapter_handle::YtAdapter;
 use crate::adapter_state::{YtAdapterSeen, YtTarget};
+use crate::lending::YtLent;
 use std::mem::size_of;
 
 /// The size of each struct of the adapter, in bytes.
@@ -14,6 +15,7 @@ pub struct YtAdapterSizes {
     pub act: usize,
     pub adapter_seen: usize,
     pub target: usize,
+    pub lent: usize,
     pub adapter_sizes: usize,
 }
 
@@ -24,13 +26,15 @@ pub extern "C" fn yt_adapter_sizes_of(sizes: &mut YtAdapterSizes)
     ensures act { sizes.new.act ≡ 64 }
     ensures adapter_seen { sizes.new.adapter_seen ≡ 48 }
     ensures target { sizes.new.target ≡ 16 }
-    ensures adapter_sizes { sizes.new.adapter_sizes ≡ 40 }
+    ensures lent { sizes.new.lent ≡ 16 }
+    ensures adapter_sizes { sizes.new.adapter_sizes ≡ 48 }
 {
     *sizes = YtAdapterSizes {
         adapter: size_of::<YtAdapter>(),
         act: size_of::<YtAct>(),
         adapter_seen: size_of::<YtAdapterSeen>(),
         target: size_of::<YtTarget>(),
+        lent: size_of::<YtLent>(),
         adapter_sizes: size_of::<YtAdapterSizes>(),
     };
 }

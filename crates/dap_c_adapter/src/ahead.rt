@@ -4,9 +4,9 @@
 //! is touched.
 ghost use Rattle.std.specs.Prelude.{◌≡◌, ◌≢◌, ◌⊎◌, IfOk, IfErr, None, Some};
 ghost use Rattle.dap_live.specs.MailState.{with_ahead};
-ghost use Rattle.dap_c_adapter.specs.AdapterCalls.{KeepsActs, over_mail};
+ghost use Rattle.dap_c_adapter.specs.AdapterCalls.{IsCodeOfArguments, KeepsActs, over_mail};
 ghost use Rattle.dap_c_adapter.specs.AdapterBehind.{IsFull, IsEmpty, FromTo};
-ghost use Rattle.dap_c_adapter.specs.AdapterExports.{KeepsAdapter, KeepsFetched, CanBeAhead, SaysAhead, IsCodeOfAhead};
+ghost use Rattle.dap_c_adapter.specs.AdapterExports.{KeepsAdapter, KeepsFetched, CanBeAhead, SaysAhead};
 ghost use Rattle.dap_c_adapter.specs.Ahead.{note_in, ahead_by};
 
 use crate::adapter_handle::YtAdapter;
@@ -26,6 +26,7 @@ fn note_in(said: Said) -> Option<Note>
         Said::OfNext(note) => Some(note),
         Said::Happened(_) => None,
         Said::Event { .. } => None,
+        Said::Answer { .. } => None,
         Said::Target(_) => None,
     }
 }
@@ -34,7 +35,7 @@ fn note_in(said: Said) -> Option<Note>
 fn ahead_given(alloc: Global, bytes: &[u8]) -> Result<Ahead, u32>
     ensures said { IfOk result (λ ahead. ahead_by bytes.now ≡ Some ahead) }
     ensures refused { IfErr result (λ code. code ≡ YT_BAD_ARGUMENTS → ahead_by bytes.now ≡ None) }
-    ensures code { IfErr result IsCodeOfAhead }
+    ensures code { IfErr result IsCodeOfArguments }
 {
     let mut ahead = Ahead::none();
     if bytes.is_empty() {
@@ -70,7 +71,7 @@ fn leave_given(alloc: Global, held: &mut HeldAdapter, bytes: &[u8]) -> u32
     ensures says { SaysAhead bytes.now result held.old held.new }
     ensures refused { result ≢ YT_OK → KeepsAdapter held.old held.new }
     ensures why { result ≡ YT_BAD_ARGUMENTS → ahead_by bytes.now ≡ None }
-    ensures code { result ≢ YT_OK → IsCodeOfAhead result }
+    ensures code { result ≢ YT_OK → IsCodeOfArguments result }
     ensures same { KeepsFetched held.old held.new }
     ensures acts { KeepsActs held.old held.new }
 {
@@ -96,7 +97,7 @@ pub extern "C" fn yt_adapter_ahead(alloc: Global, adapter: &mut YtAdapter, said:
     ensures says { FromTo adapter.old adapter.new (SaysAhead said.now result) }
     ensures refused { FromTo adapter.old adapter.new (λ a b. result ≢ YT_OK → KeepsAdapter a b) }
     ensures wanted { CanBeAhead said.now → result ≢ YT_BAD_ARGUMENTS }
-    ensures code { IsFull adapter.old → result ≢ YT_OK → IsCodeOfAhead result }
+    ensures code { IsFull adapter.old → result ≢ YT_OK → IsCodeOfArguments result }
     ensures same { FromTo adapter.old adapter.new KeepsFetched }
     ensures acts { FromTo adapter.old adapter.new KeepsActs }
 {

@@ -4,37 +4,32 @@ ghost use Rattle.std.specs.Prelude.{◌≡◌, ◌≢◌, ◌⊎◌, IfErr, IfOk
 ghost use Rattle.std.specs.Option.{IsSome};
 ghost use Rattle.dap_json.specs.Writable.{is_plain_tree as plain_tree};
 ghost use Rattle.dap_c_adapter.specs.AdapterBehind.{FromEmpty, FromTo, IsFull};
-ghost use Rattle.dap_c_adapter.specs.AdapterCalls.{KeepsActs};
+ghost use Rattle.dap_c_adapter.specs.AdapterCalls.{IsCodeOfArguments, KeepsActs};
 ghost use Rattle.dap_c_adapter.specs.AdapterExports.{KeepsAdapter, KeepsFrame, KeepsLimits, LeavesBytes};
-ghost use Rattle.dap_c_adapter.specs.Emitting.{EmitsNamed, RefusesNamed, body_by, emit_number, IsCodeOfBody};
+ghost use Rattle.dap_c_adapter.specs.Emitting.{EmitsNamed, RefusesNamed, body_by, emit_number};
 
-use crate::adapter::only_bytes;
+use crate::adapter::{json_given, only_bytes};
 use crate::adapter_handle::YtAdapter;
 use crate::held_adapter::HeldAdapter;
 use dap_adapter::EmitFault;
 use dap_c_parts::codes::*;
 use dap_c_parts::found::YtFound;
 use dap_envelope::is_plain_tree;
-use dap_json::{ParseFault, Tree};
+use dap_json::Tree;
 use dap_slot::{handle_of, take_out};
 use std::alloc::Global;
 
 /// The body that bytes are; none where there are no bytes.
-fn body_given(alloc: Global, bytes: &[u8]) -> Result<Option<Tree>, u32>
+pub(crate) fn body_given(alloc: Global, bytes: &[u8]) -> Result<Option<Tree>, u32>
     ensures read { IfOk result (λ body. body_by bytes.now ≡ Some body) }
     ensures plain { IfOk result (λ body. IsTrue (plain_tree body)) }
     ensures refused { IfErr result (λ code. code ≡ YT_BAD_ARGUMENTS → body_by bytes.now ≡ None) }
-    ensures code { IfErr result IsCodeOfBody }
+    ensures code { IfErr result IsCodeOfArguments }
 {
     if bytes.is_empty() {
         return Ok(None);
     }
-    let value = match dap_json::parse(alloc, bytes) {
-        Ok(value) => value,
-        Err(ParseFault::NotJson) => return Err(YT_BAD_ARGUMENTS),
-        Err(ParseFault::OutOfMemory) => return Err(YT_NO_MEMORY),
-    };
-    let body = Some(Tree::new(value));
+    let body = Some(Tree::new(json_given(alloc, bytes)?));
     if !is_plain_tree(&body) {
         return Err(YT_BAD_ARGUMENTS);
     }
@@ -61,7 +56,7 @@ fn emit_text(alloc: Global, held: &mut HeldAdapter, event: &str, body: &[u8]) ->
     ensures unchanged { result ≢ YT_OK → KeepsAdapter held.old held.new }
     ensures nothing { result ≢ YT_OK → held.new.bytes.items ≡ [] }
     ensures why { result ≡ YT_BAD_ARGUMENTS → body_by body.now ≡ None }
-    ensures bad { body_by body.now ≡ None → IsCodeOfBody result }
+    ensures bad { body_by body.now ≡ None → IsCodeOfArguments result }
     ensures limits { KeepsLimits held.old held.new }
     ensures frame { KeepsFrame held.old held.new }
     ensures acts { KeepsActs held.old held.new }
@@ -84,8 +79,8 @@ fn emit_named(alloc: Global, held: &mut HeldAdapter, event: &[u8], body: &[u8]) 
     ensures unchanged { result ≢ YT_OK → KeepsAdapter held.old held.new }
     ensures nothing { result ≢ YT_OK → held.new.bytes.items ≡ [] }
     ensures wanted { IsUtf8 event.now → IsSome (body_by body.now) → result ≢ YT_BAD_ARGUMENTS }
-    ensures bad_name { (IsUtf8 event.now → ⊥) → IsCodeOfBody result }
-    ensures bad_body { body_by body.now ≡ None → IsCodeOfBody result }
+    ensures bad_name { (IsUtf8 event.now → ⊥) → IsCodeOfArguments result }
+    ensures bad_body { body_by body.now ≡ None → IsCodeOfArguments result }
     ensures limits { KeepsLimits held.old held.new }
     ensures frame { KeepsFrame held.old held.new }
     ensures acts { KeepsActs held.old held.new }
@@ -123,8 +118,8 @@ pub extern "C" fn yt_adapter_emit(
     ensures unchanged { FromTo adapter.old adapter.new (λ a b. result ≢ YT_OK → KeepsAdapter a b) }
     ensures nothing { FromTo adapter.old adapter.new (λ a b. result ≢ YT_OK → b.bytes.items ≡ []) }
     ensures wanted { IsUtf8 event.now → IsSome (body_by body.now) → result ≢ YT_BAD_ARGUMENTS }
-    ensures bad_name { IsFull adapter.old → (IsUtf8 event.now → ⊥) → IsCodeOfBody result }
-    ensures bad_body { IsFull adapter.old → body_by body.now ≡ None → IsCodeOfBody result }
+    ensures bad_name { IsFull adapter.old → (IsUtf8 event.now → ⊥) → IsCodeOfArguments result }
+    ensures bad_body { IsFull adapter.old → body_by body.now ≡ None → IsCodeOfArguments result }
     ensures length { FromTo adapter.old adapter.new (LeavesBytes found.new.bytes) }
     ensures limits { FromTo adapter.old adapter.new KeepsLimits }
     ensures frame { FromTo adapter.old adapter.new KeepsFrame }

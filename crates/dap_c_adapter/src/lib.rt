@@ -3,7 +3,8 @@
 //! It is of the same kind as `dap_c`, whose head says how. The host is not called: it fetches what it has to do, and says what
 //! happened. A file a concern: `adapter` has the session, `telling` what the host says, `beside` what it says beside that,
 //! `output` under which name and in which pieces, `no_value` why a text has none, `ahead` what it says of what is asked next,
-//! `emitting` has the events that it tells by their names, `acts` what it has to do.
+//! `emitting` has the events that it tells by their names, `lending` the requests of commands that it answers, `acts` what it has to
+//! do.
 #![tactic(auto)]
 
 mod acts;
@@ -15,6 +16,7 @@ mod ahead;
 mod beside;
 mod emitting;
 mod held_adapter;
+mod lending;
 mod no_value;
 mod output;
 mod telling;
@@ -23,8 +25,8 @@ pub use acts::{
     YtAct, yt_adapter_act, yt_adapter_lines, yt_adapter_name, yt_adapter_source, yt_adapter_value,
 };
 pub use adapter::{
-    yt_adapter_bytes, yt_adapter_frame, yt_adapter_free, yt_adapter_open, yt_adapter_open_with,
-    yt_adapter_take, yt_adapter_turn,
+    yt_adapter_bytes, yt_adapter_frame, yt_adapter_free, yt_adapter_open, yt_adapter_open_commands,
+    yt_adapter_open_with, yt_adapter_take, yt_adapter_turn,
 };
 pub use adapter_handle::{AdapterHandle, YtAdapter};
 pub use adapter_layout::{YtAdapterSizes, yt_adapter_sizes_of};
@@ -33,6 +35,7 @@ pub use ahead::yt_adapter_ahead;
 pub use beside::{yt_adapter_learned_with, yt_adapter_output_with, yt_adapter_variable_with};
 pub use emitting::yt_adapter_emit;
 pub use held_adapter::HeldAdapter;
+pub use lending::{YtLent, yt_adapter_lent, yt_adapter_lent_command, yt_adapter_respond};
 pub use no_value::yt_adapter_no_value;
 pub use output::{yt_adapter_output_named, yt_output_piece};
 pub use telling::{

@@ -141,6 +141,7 @@ pub(crate) fn tell_handle(
 
 pub(crate) fn text_given(alloc: Global, bytes: &[u8]) -> Result<Text, u32>
     ensures text { IfOk result (λ text. text ≡ bytes.now) }
+    ensures is_text { IsOk result → IsUtf8 bytes.now }
     ensures wanted { IsUtf8 bytes.now → IfErr result (λ code. code ≡ YT_NO_MEMORY) }
     ensures no_recording { IfErr result (λ code. code ≡ YT_BAD_RECORDING → ⊥) }
     ensures code { IfErr result IsCodeOfText }

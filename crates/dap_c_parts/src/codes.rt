@@ -45,6 +45,9 @@ pub const YT_NOT_KEPT: u32 = 19;
 /// An event that says what a client may do next is not told by its name.
 pub const YT_RESERVED: u32 = 20;
 
+/// No request with this number is lent.
+pub const YT_NOT_LENT: u32 = 21;
+
 /// The stream is no frame.
 pub const YT_FRAME: u32 = 31;
 
