@@ -10,8 +10,10 @@ so the loop is free while it runs. Three threads wait: for the client, for the p
 of gdb's but `post_event`: all else happens in gdb's thread, one thing after the other.
 
 This file knows which thing that a client, gdb or `dap host` says leads to which of the others. The rest is beside it:
-`streams.py` has bytes, `lines.py` the lines of `dap host`, `launch.py` the client's arguments, `debuggee.py` gdb's commands,
-`points.py` breakpoints, `sources.py` sources, `stops.py` frames, `values.py` values.
+`streams.py` has bytes, `lines.py` the lines of `dap host`, `launch.py` and `arguments.py` the client's arguments, `debuggee.py`
+gdb's commands, `points.py` breakpoints, `sources.py` sources, `stops.py` frames, `values.py` values, `memory.py` memory,
+`places.py` code; `asked.py`, `asked_points.py` and `asked_moves.py` have the requests that `dap host` leaves to this adapter, and
+`meaning.py` what their arguments mean.
 """
 import collections
 import json
@@ -25,6 +27,8 @@ import gdb
 
 sys.path.insert(0, os.path.dirname(os.path.abspath(__file__)))
 
+from arguments import Refusal, present  # noqa: E402
+from asked import COMMANDS as SERVED, OPENED, Asked  # noqa: E402
 from debuggee import SIGNALS, Debuggee, Watch, fault_of, load, resume, select  # noqa: E402
 from launch import Launch  # noqa: E402
 from lines import Ended, Lines, event_line, line_of, output_lines, said  # noqa: E402
@@ -40,6 +44,7 @@ COMMANDS = {"stepIn": "step", "next": "next", "stepOut": "finish", "continue": "
 # What is offered beside the flags of `dap host`, and what is not: gdb steps back only in what it records.
 OFFERS = {"supportsConditionalBreakpoints": True, "supportsHitConditionalBreakpoints": True, "supportsLogPoints": True,
           "supportsEvaluateForHovers": True, "supportTerminateDebuggee": True, "supportsStepBack": False,
+          "completionTriggerCharacters": [".", ">", ":"],
           "exceptionBreakpointFilters": [{"filter": name, "label": name, "default": True} for name in SIGNALS]}
 NOT_STARTED = 127  # the code of a program that could not be started, as a shell has it
 LAST = "disconnect", "terminate"
@@ -60,14 +65,17 @@ class Adapter:
         self.terminal, self.due, self.busy = Terminal(), collections.deque(), False
         self.watch = Watch(seconds, lambda: self.later(self.tell_death))
         self.debuggee = Debuggee(self.watch)
-        self.lines, self.heard, self.silent = None, [], False
+        self.lines, self.heard, self.silent, self.refused = None, [], False, None
         self.launch, self.refusal, self.started, self.notes, self.first_line = None, "", False, [], 1
-        self.wants_types = False
+        self.wants_types, self.said, self.first_column = False, {}, 1
         self.running, self.entry, self.here, self.setting, self.found_more = False, False, None, None, False
         self.ending, self.kills, self.attaching = None, False, False
         self.wanted = {}  # of each source, what the client wants of a breakpoint, by the line where it is set
         self.asked, self.ids = {}, {}  # of each `setBreakpoints` its source and lines; of these the client's numbers
         self.threads, self.modules = set(), set()  # of which the client was told that they are there
+        self.requests, self.asks = {}, Asked(self)  # of each number the request that may be left to this adapter
+        self.into, self.stop_into = None, None  # where the next step is to lead, and the breakpoint there
+        self.again = None  # how the program is to be started again, once it is dead
 
     # The loop, and the end
 
@@ -128,7 +136,7 @@ class Adapter:
         if self.lines:
             self.lines.close()
         self.sources = Sources()
-        self.lines = Lines(self.sources.news(), OFFERS)
+        self.lines = Lines(self.sources.news(), OFFERS, OPENED)
         self.silent = True
         for line in self.heard:
             self.hand_on([line])
@@ -138,28 +146,51 @@ class Adapter:
         """Hands lines to `dap host`, writes what it answers to the client, and does what has to be done.
 
         What is given is the targets that were asked for."""
-        acts, targets, over = [], [], False
+        acts, targets, lent, over = [], [], [], False
         for answer, told in self.lines.answers(lines):
             if answer.startswith(b"< "):
                 over = over or self.ending is not None and json.loads(answer[2:]).get("request_seq") == self.ending
                 if answer.startswith(b'< {"body":{"breakpoints":'):
                     self.learn_numbers(json.loads(answer[2:]))
+                if b'"success":false' in answer:
+                    self.requests.pop(json.loads(answer[2:]).get("request_seq"), None)
                 if not self.silent:
                     self.client_out.write(framed(answer[2:-1]))
             elif "act" in told:
                 acts.append(told)
             elif "target" in told:
                 targets.append(told)
+            elif "lent" in told and not self.silent:
+                lent.append(told["lent"])
             elif "refused" in told:
                 self.refuse(told["why"], lines[told["refused"] - self.lines.count + len(lines)])
         self.client_out.flush()
         for act in acts:
             self.do(act)
+        for seq in lent:
+            self.serve(seq)
         if over:
             self.end()
         return targets
 
+    def serve(self, seq):
+        """Answers a request that `dap host` leaves to this adapter."""
+        command, arguments = self.requests.pop(seq, (None, {}))
+        if not self.is_answered(self.asks.answer(seq, command, arguments)):
+            self.is_answered(self.asks.failure(seq, command, "tooLarge", "The response would be too large."))
+        for call in self.asks.then:
+            call()
+
+    def is_answered(self, line):
+        """Hands on an answer: whether `dap host` takes it."""
+        if not self.started:
+            self.heard.append(line)
+        self.refused = None
+        self.hand_on([line])
+        return self.refused != line
+
     def refuse(self, why, line):
+        self.refused = line
         if line.startswith(b"> ") and why != "Ended":
             self.fail("the client sent what is no message: %s" % why)
         if why in ("TooManySources", "TooManyHolders", "OutOfRange"):
@@ -179,6 +210,13 @@ class Adapter:
         for lines in output_lines(category, text):
             self.hand_on(lines)
 
+    def say_later(self, *output):
+        self.later(self.say_output, *output)
+
+    def says_of(self, flag):
+        """Whether the client says that it understands this."""
+        return self.said.get(flag) is True
+
     # What gdb and the program did
 
     def on_stop(self, event):
@@ -188,23 +226,31 @@ class Adapter:
             self.later(self.go_on)
             return
         reason, name = "step", getattr(event, "stop_signal", None)
+        numbers = [point.number for point in getattr(event, "breakpoints", ())]
         if name:
             reason = "pause" if name == "SIGINT" else "exception"
         elif self.entry:
             reason = "entry"
         elif isinstance(event, gdb.BreakpointEvent):
-            reason = "breakpoint"
+            reason = self.reason_of(numbers)
         self.entry = False
-        numbers = [point.number for point in getattr(event, "breakpoints", ())]
         if reason == "exception":
             note = "The program received %s." % name
             self.later(self.tell_stop, reason, note + "\n", {"description": note, "text": name})
         else:
             self.later(self.tell_stop, reason, "", self.hits_of(numbers))
 
+    def reason_of(self, numbers):
+        """Why the program stops at these breakpoints of gdb's."""
+        others = self.debuggee.others_hit(numbers)
+        if others and not self.debuggee.lines_of(numbers):
+            return others[0][0]
+        return "step" if self.stop_into and numbers == [self.stop_into.number] else "breakpoint"
+
     def hits_of(self, numbers):
         """What stands beside a stop at breakpoints of gdb's: the client's numbers of them."""
         ids = sorted(one for where in self.debuggee.lines_of(numbers) for one in self.ids.get(where, ()))
+        ids += sorted(point.id for _, point in self.debuggee.others_hit(numbers))
         return {"hitBreakpointIds": ids} if ids else {}
 
     def on_objfile(self, event):
@@ -218,6 +264,10 @@ class Adapter:
         self.say_output("stdout", self.terminal.written(all))
 
     def tell_stop(self, reason, note="", more={}):
+        if self.again:
+            self.debuggee.kill()
+            return
+        self.end_step()
         self.tell_output(True)
         self.say_output("console", note)
         if self.found_more:
@@ -225,6 +275,8 @@ class Adapter:
             self.sources.find()
         for path, line, place in self.debuggee.points_found():
             self.tell_point(path, line, place)
+        for point in self.debuggee.others_found():
+            self.tell_event("breakpoint", reason="changed", breakpoint=self.asks.breakpoint_of(point))
         self.tell_modules()
         self.tell_threads()
         self.tell_moment(reason, more)
@@ -275,7 +327,38 @@ class Adapter:
             self.say("continued", thread=thread)
             self.tell_moment(*self.reason)
 
+    def tell_jump(self, thread):
+        """A thread stands at another place, where the client sent it."""
+        self.say("continued", thread=thread)
+        select(thread, 0)
+        self.tell_moment("goto", {})
+
+    def tell_threads_again(self):
+        """Tells which threads there are, where some have ended while the program stood: there is no other way but another stop."""
+        if self.debuggee.pid:
+            here, thread = thread_numbers(), self.here.thread_of_moment
+            self.say("continued", thread=thread)
+            select(thread if thread in here else min(here), 0)
+            self.tell_threads()
+            self.tell_moment(*(self.reason if thread in here else ("pause", {})))
+
+    def start_again(self, launch):
+        """Kills the program. It is started again once gdb knows that it is dead."""
+        if self.stands():
+            self.say("continued", thread=self.here.thread_of_moment)
+        self.running, self.here, self.watch.standing = True, None, None
+        for gone in self.asks.drop_data_points():
+            self.tell_event("breakpoint", reason="changed", breakpoint=gone)
+        self.again = self.launch = launch or Launch({})
+        self.debuggee.kill()
+
     def tell_exit(self, code):
+        self.end_step()
+        if self.again:
+            self.again, launch = None, self.again
+            self.tell_output(True)
+            self.start(launch)
+            return
         if self.running or self.here:
             self.tell_output(True)
             self.running, self.here, self.watch.standing = False, None, None
@@ -308,12 +391,13 @@ class Adapter:
     def set_breakpoints(self, source, lines):
         path = source.get("path", self.sources.all[source.get("sourceReference", 0) - 1].get("path"))
         if path:
-            self.debuggee.set_points(path, lines, self.wanted.get(path, {}), lambda *output: self.later(self.say_output, *output))
+            self.debuggee.set_points(path, lines, self.wanted.get(path, {}), self.say_later)
 
     def start(self, launch):
         self.started, self.running = True, True
         for category, text in self.notes:
             self.say_output(category, text)
+        self.notes = []
         self.say_output("console", launch.unknown())
         self.say_output("stderr", launch.faults())
         fault = self.attach(launch) if launch.attaches else self.run(launch)
@@ -341,11 +425,20 @@ class Adapter:
 
     def resume(self, command, thread):
         self.running, self.watch.standing = True, None
+        self.asks.forget()
+        if self.into:
+            self.stop_into, command = self.debuggee.stop_of(thread, self.into.address), "next"
         fault = resume(command, thread)
         if fault and self.debuggee.pid:
             self.tell_stop("step", fault)
         elif fault:
             self.tell_exit(NOT_STARTED)
+
+    def end_step(self):
+        """The step into a function is over, wherever it led."""
+        if self.stop_into:
+            self.stop_into.delete()
+        self.into, self.stop_into = None, None
 
     def set_variable(self, holder, place, expression, text, value):
         with self.debuggee.looking(self.here.frame_of(holder)):
@@ -354,7 +447,7 @@ class Adapter:
         self.tell_change()
 
     def end_program(self):
-        self.running, self.watch.standing, self.here = False, None, None
+        self.running, self.watch.standing, self.here, self.again = False, None, None, None
         self.debuggee.leave(self.kills)
 
     # What the client asks
@@ -370,10 +463,11 @@ class Adapter:
             self.later(self.fail, "the client's stream: %s" % fault)
 
     def hear(self, body):
-        separator, command, arguments, notes = b" ", None, {}, []
+        separator, command, arguments, notes, self.into = b" ", None, {}, [], None
         try:
             message = json.loads(body)
             command, arguments = message["command"], message.get("arguments") or {}
+            self.requests.update({message["seq"]: (command, arguments)} if command in SERVED else {})
             notes = self.learn(command, arguments, message["seq"]) or []
         except (KeyError, TypeError, AttributeError, StopIteration, IndexError, gdb.error):
             pass  # `dap host` answers what is wrong with it
@@ -389,6 +483,10 @@ class Adapter:
     def stands(self):
         return self.here is not None and not self.running
 
+    def is_started(self):
+        """Whether there is a program, or one that is to be started again."""
+        return self.again is not None or bool(self.debuggee.pid) and (self.running or self.stands())
+
     def object_of(self, kind, number):
         """The frame or the holder that a number of the client stands for."""
         for target in self.hand_on([line_of(asked="target", number=number)]):
@@ -400,7 +498,8 @@ class Adapter:
         """Works out what the client asks for, before it is answered: the lines that say something of the message, if any do."""
         if command == "initialize":
             self.first_line = 0 if arguments.get("linesStartAt1") is False else 1
-            self.wants_types = arguments.get("supportsVariableType") is True
+            self.first_column = 0 if arguments.get("columnsStartAt1") is False else 1
+            self.said, self.wants_types = arguments, arguments.get("supportsVariableType") is True
         elif command in ("launch", "attach") and not self.started:
             self.learn_launch(command, arguments)
             return self.refusals()
@@ -413,12 +512,22 @@ class Adapter:
             return self.places(arguments["source"].get("path"), arguments.get("breakpoints") or [], seq)
         elif command == "setExceptionBreakpoints":
             self.debuggee.stop_at_signals(arguments["filters"])
+        elif command == "stepIn" and present(arguments, "targetId"):
+            return self.learn_step(arguments)
         elif command == "variables" and self.stands():
             self.tell_holder(self.object_of("holder", arguments["variablesReference"]))
         elif command == "evaluate" and self.stands():
             self.learn_value(arguments["expression"], arguments.get("frameId"))
         elif command == "setVariable" and self.stands():
             self.learn_setting(self.object_of("holder", arguments["variablesReference"]), arguments["name"], arguments["value"])
+
+    def learn_step(self, arguments):
+        """Where a step is to lead: a line of `dap host` where that is no place."""
+        try:
+            self.into = self.asks.target(arguments)
+        except Refusal as refusal:
+            return [line_of(refuses=refusal.words)]
+        return []
 
     def learn_launch(self, command, arguments):
         self.launch = Launch(arguments, command == "attach")
@@ -448,7 +557,9 @@ class Adapter:
 
     def learn_numbers(self, answer):
         """The numbers that the client is given for breakpoints."""
-        path, asked = self.asked.pop(answer["request_seq"], (None, []))
+        if answer["request_seq"] not in self.asked:  # it is of other breakpoints
+            return
+        path, asked = self.asked.pop(answer["request_seq"])
         for where in [where for where in self.ids if where[0] == path]:
             del self.ids[where]
         for where, one in zip(asked, answer["body"]["breakpoints"]):

@@ -36,6 +36,11 @@ def fault_of(command):
         return clean(fault) + "\n"
 
 
+def arguments_of_gdb():
+    """The program's arguments, as gdb's own command line or a start has them: `gdb.parameter` does not know them."""
+    return re.search(r'is "(.*)"\.\n\Z', gdb.execute("show args", to_string=True), re.DOTALL).group(1)
+
+
 def load(path):
     """Why gdb can't load a program, if so."""
     return fault_of("file " + quoted(path))
@@ -78,6 +83,11 @@ def interrupt_python(*fault):
     """Raises a fault in gdb's own Python, wherever that is; without one, takes back a fault that was not raised yet."""
     thread = ctypes.c_ulong(threading.main_thread().ident)
     ctypes.pythonapi.PyThreadState_SetAsyncExc(thread, *(map(ctypes.py_object, fault) if fault else [None]))
+
+
+def is_hit(point, numbers):
+    """Whether a breakpoint of the client's is among these of gdb's, and stopped the program: others may be at its place."""
+    return point.number in numbers and point.is_hit
 
 
 class Watch:
@@ -129,7 +139,10 @@ class Watch:
 class Debuggee:
     def __init__(self, watch):
         self.watch, self.attached = watch, False
+        self.first_arguments, self.names_set = None, []  # those of gdb's own command line; of the environment, by the last start
         self.points = {}  # of each path, its breakpoints
+        self.others = {}  # of each reason of a stop but `breakpoint`, those that stop so
+        self.pending = []  # those of `others` whose code was not loaded yet
         self.waiting = {}  # of each breakpoint whose code was not loaded yet, its source and line
 
     @property
@@ -139,15 +152,18 @@ class Debuggee:
     # Beginning and end
 
     def start(self, arguments, folder, environment, stops):
-        """Starts the program: why it can't be, if so."""
-        for name, value in environment.items():
+        """Starts the program: why it can't be, if so. What an earlier start had set counts no more."""
+        if self.first_arguments is None:
+            self.first_arguments = arguments_of_gdb()
+        for name, value in {**{name: os.environ.get(name) for name in self.names_set}, **environment}.items():
             fault_of("unset environment " + name if value is None else "set environment %s=%s" % (name, value))
-        if arguments is not None:
-            fault_of("set args " + arguments)
-        if folder is not None:
-            if not os.path.isdir(folder):
-                return "%s: No such directory.\n" % clean(folder)
-            fault_of("set cwd " + folder)
+        self.names_set = list(environment)
+        fault_of("set args " + (self.first_arguments if arguments is None else arguments))
+        if folder is not None and not os.path.isdir(folder):
+            return "%s: No such directory.\n" % clean(folder)
+        fault_of("set cwd " + (folder or ""))
+        for point in self.all_points():
+            point.hits = 0
         if not stops:
             return fault_of("run&")
         return fault_of("start&") and fault_of("starti&")  # it may have no `main`
@@ -170,6 +186,13 @@ class Debuggee:
         except OSError:  # it is gone
             pass
 
+    def kill(self):
+        """Kills the program: gdb tells its exit, also where it stands still."""
+        self.leave(True)
+        thread = gdb.selected_thread()
+        if self.pid and not (thread and thread.is_running()):
+            fault_of("kill")
+
     # Breakpoints
 
     def set_points(self, path, lines, wanted, say):
@@ -178,17 +201,42 @@ class Debuggee:
         for point in self.points.pop(path, []):
             self.waiting.pop(point, None)
             point.delete()
-        self.points[path] = [Point(path, line, wanted.get(line, {}), say) for line in lines]
+        self.points[path] = [Point(wanted.get(line, {}), say, source=path, line=line) for line in lines]
         self.waiting.update((point, (path, line)) for point, line in zip(self.points[path], lines) if point.pending)
 
     def lines_of(self, numbers):
-        """The source and the line of each of these breakpoints of gdb's, as they were set."""
-        return [(path, point.line_set) for path, points in self.points.items() for point in points if point.number in numbers]
+        """The source and the line of each of these breakpoints of gdb's that was hit, as they were set."""
+        return [(path, point.line_set) for path, points in self.points.items() for point in points if is_hit(point, numbers)]
+
+    def drop_others(self, reason):
+        """Takes away all breakpoints that stop for this reason."""
+        for point in self.others.pop(reason, []):
+            point.delete()
+
+    def add_other(self, reason, point):
+        self.others.setdefault(reason, []).append(point)
+        if point.pending:
+            self.pending.append(point)
+
+    def others_found(self):
+        """Of the breakpoints of `others` that waited for their code those for which it is loaded now."""
+        self.pending, before = [point for point in self.pending if point.is_valid() and point.pending], self.pending
+        return [point for point in before if point.is_valid() and not point.pending]
+
+    def others_hit(self, numbers):
+        """Of these breakpoints of gdb's those of no line that were hit, each with its reason."""
+        return [(reason, point) for reason, points in self.others.items() for point in points if is_hit(point, numbers)]
 
     def stop_at_signals(self, names):
         """Stops at these signals, of those that a client can choose, and at no other of them."""
         for name in SIGNALS:
             fault_of("handle %s %s pass" % (name, "stop print" if name in names else "nostop noprint"))
+
+    def stop_of(self, number, address):
+        """A breakpoint that stops this thread alone."""
+        point = gdb.Breakpoint("*%#x" % address, internal=True)
+        point.thread = next((thread.global_num for thread in gdb.selected_inferior().threads() if thread.num == number), None)
+        return point
 
     def points_found(self):
         """The breakpoints that waited for their code, which is loaded now: of each its source, its line, and where it is."""
@@ -196,7 +244,7 @@ class Debuggee:
         return [(*self.waiting.pop(point), place_of(point)) for point in found]
 
     def all_points(self):
-        return itertools.chain(*self.points.values())
+        return itertools.chain(*self.points.values(), *self.others.values())
 
     @contextlib.contextmanager
     def looking(self, where):
@@ -210,4 +258,5 @@ class Debuggee:
                 yield
         finally:
             for point in points:
-                point.enabled = True
+                if point.is_valid():
+                    point.enabled = True

@@ -23,10 +23,10 @@ class Ended(Exception):
 
 
 class Lines:
-    def __init__(self, sources, offers):
+    def __init__(self, sources, offers, opened):
         self.count = 0  # of the lines that were written
         with tempfile.NamedTemporaryFile("w", suffix=".json") as file:
-            json.dump({"sources": sources, "offers": offers}, file)
+            json.dump({"sources": sources, "offers": offers, "open": opened}, file)
             file.flush()
             self.dap = subprocess.Popen([DAP, "host", file.name], stdin=subprocess.PIPE, stdout=subprocess.PIPE)
             self.answers([])
@@ -67,6 +67,19 @@ def said(happened, **more):
 def event_line(event, **body):
     """The line that tells the client an event by its name."""
     return line_of(event=event, body=body)
+
+
+def answer_line(seq, body=None):
+    """The line that answers a request of the client by success; without a body it has none."""
+    return line_of(answer=seq, **({} if body is None else {"body": body}))
+
+
+def failure_line(seq, name, number, words, shown):
+    """The line that answers a request of the client by a failure with these words. Those of a debugger may have any character: a
+    client puts them in their place."""
+    text = {"format": "{why}", "variables": {"why": words}} if name == "debuggee" else {"format": words}
+    error = {"id": number, **text, **({"showUser": True} if shown else {})}
+    return line_of(answer=seq, message=name, body={"error": error})
 
 
 def output_lines(category, text):

@@ -1,7 +1,9 @@
-"""Breakpoints as a client wants them: at which lines, under which conditions, and what each says in place of stopping.
+"""Breakpoints as a client wants them: at which lines, functions, addresses or data, under which conditions, and what each says
+in place of stopping.
 
 It knows gdb's breakpoints and what the protocol says of them (Specification, "SourceBreakpoint"). It knows nothing of `dap host`.
 """
+import collections
 import contextlib
 import os
 import re
@@ -14,6 +16,9 @@ NOWHERE = os.open(os.devnull, os.O_WRONLY | os.O_CLOEXEC)
 HITS = re.compile(r"\s*(>=|<=|==|>|<|=|%)?\s*([0-9]+)\s*\Z")
 TESTS = {">=": lambda n, k: n >= k, "<=": lambda n, k: n <= k, ">": lambda n, k: n > k, "<": lambda n, k: n < k,
          "%": lambda n, k: k != 0 and n % k == 0}
+
+# Where gdb puts a breakpoint: its address, its line and the name of its function, where it has them.
+Location = collections.namedtuple("Location", "address line function")
 
 
 @contextlib.contextmanager
@@ -34,16 +39,21 @@ def place_of(point):
     return point.locations[0].source[1] if point.locations else None
 
 
-def line_of_point(path, line):
-    """Where gdb puts a breakpoint that is set there."""
+def locations_of(path, line):
+    """All places where gdb puts a breakpoint that is set there."""
     try:
         with quiet():
             point = gdb.Breakpoint(source=path, line=line, internal=True)
     except gdb.error:
-        return None
-    place = place_of(point)
+        return []
+    places = [Location(one.address, one.source and one.source[1], one.function) for one in point.locations]
     point.delete()
-    return place
+    return places
+
+
+def line_of_point(path, line):
+    """Where gdb puts a breakpoint that is set there."""
+    return next((where.line for where in locations_of(path, line)), None)
 
 
 def test_of_hits(text):
@@ -74,12 +84,13 @@ def filled(message):
 
 
 class Point(gdb.Breakpoint):
-    """A breakpoint of a source. Its hits are counted where its condition holds."""
+    """A breakpoint. Its hits are counted where its condition holds. Where it is set is said as gdb's own class wants it."""
 
-    def __init__(self, path, line, wanted, say):
+    def __init__(self, wanted, say, *place, **where):
         with quiet():
-            super().__init__(source=path, line=line)
-        self.say, self.hits, self.line_set = say, 0, line
+            super().__init__(*place, **where)
+        self.say, self.hits, self.line_set, self.id = say, 0, where.get("line"), None
+        self.is_hit = False  # where the program stopped last
         self.when, self.message = wanted.get("condition"), wanted.get("logMessage")
         hits = wanted.get("hitCondition")
         self.stops_at = test_of_hits(hits) if hits else None
@@ -94,7 +105,12 @@ class Point(gdb.Breakpoint):
             return True
 
     def stop(self):
-        """Whether the program stops here. gdb calls it at each hit, and lets the program do nothing else meanwhile."""
+        """gdb calls it where the program comes here, and lets the program do nothing else meanwhile."""
+        self.is_hit = self.stops_here()
+        return self.is_hit
+
+    def stops_here(self):
+        """Whether the program stops here."""
         if not self.holds():
             return False
         self.hits += 1

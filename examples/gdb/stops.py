@@ -68,7 +68,8 @@ class Stop:
     def frame(self, frame, thread, level):
         source = self.sources.of(frame)
         self.frames.append((thread, level))
-        return {"name": name_of(frame, bool(source)), **source, "scopes": self.scopes_of(frame)}
+        more = {"instructionPointerReference": hex(frame.pc())}
+        return {"name": name_of(frame, bool(source)), **source, "scopes": self.scopes_of(frame), "more": more}
 
     def scopes_of(self, frame):
         try:
