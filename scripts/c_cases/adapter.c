@@ -1,6 +1,6 @@
 /* The adapter's end over a debuggee that this program feeds: a session with breakpoints, a stop, variables that are told later,
- * a value that is set, an exit, events by their names; one with breakpoints that move, a start that is refused, and long output; what a host says out
- * of turn; and each allocation refused in turn, as in refused.c. */
+ * a value that is set, an exit, events by their names; one with breakpoints that move, a start that is refused, and long output; one
+ * with commands that this program answers; what a host says out of turn; and each allocation refused in turn, as in refused.c. */
 #include "refusing.h"
 
 static const char BASE[] = "{\"sources\":[{\"name\":\"a.c\",\"path\":\"/w/a.c\",\"text\":\"1\\n2\\n3\\n4\\n\"}]}";
@@ -279,6 +279,81 @@ static int emits(void) {
     return 1;
 }
 
+/* Answers a lent request. An answer that is refused memory has changed nothing, and is given once more. */
+static uint32_t respond(uint64_t seq, bool success, const char *message, const char *body) {
+    uint32_t code = yt_adapter_respond(&adapter, seq, success, BYTES(message), BYTES(body), &found);
+    if (code == YT_NO_MEMORY) {
+        CHECK(met > 0 && found.bytes == 0);
+        code = yt_adapter_respond(&adapter, seq, success, BYTES(message), BYTES(body), &found);
+    }
+    written[0] = 0;
+    write_out();
+    return code;
+}
+
+/* Whether the request with this number, of this command, stands there among those that are lent. */
+static int is_lent(size_t at, uint64_t seq, const char *command) {
+    yt_lent lent = {0};
+    uint8_t name[16];
+    return yt_adapter_lent(&adapter, at, &lent) == YT_OK && lent.seq == seq && lent.command == strlen(command) &&
+           yt_adapter_lent_command(&adapter, at, name, lent.command) == YT_OK && !memcmp(name, command, lent.command) &&
+           yt_adapter_lent_command(&adapter, at, name, lent.command - 1) == YT_SMALL;
+}
+
+static int are_lent(size_t count) {
+    yt_lent lent = {.seq = 77};
+    uint8_t name[16];
+    return yt_adapter_lent(&adapter, count, &lent) == YT_NOTHING && lent.seq == 77 && yt_adapter_lent_command(&adapter, count, name, 16) == YT_NOTHING &&
+           (count == 0 || yt_adapter_lent(&adapter, count - 1, &lent) == YT_OK);
+}
+
+static void to_client(yt_adapter *from, size_t bytes) {
+    size_t at = strlen(written);
+    CHECK(at + bytes < sizeof written && yt_adapter_bytes(from, (uint8_t *)written + at, bytes) == YT_OK);
+    written[at + bytes] = 0;
+}
+
+#include "answer_lent.h"
+
+/* As docs/C.md answers. Where memory is refused it stops, and goes on when it is called once more. */
+static int answers_in_turn(void) {
+    if (!hear("{\"seq\":5,\"type\":\"request\",\"command\":\"mine\"}")) return 0;
+    if (!hear("{\"seq\":6,\"type\":\"request\",\"command\":\"completions\",\"arguments\":{\"text\":\"p\",\"column\":2}}")) return 0;
+    CHECK(are_lent(2));
+    written[0] = 0;
+    answer_lent(&adapter);
+    if (!are_lent(0)) {
+        CHECK(met > 0);
+        answer_lent(&adapter);
+    }
+    CHECK(are_lent(0) && has("\"command\":\"mine\",\"message\":\"notNow\",\"request_seq\":5,"));
+    CHECK(has("{\"body\":{\"targets\":[{\"label\":\"print\"}]},\"command\":\"completions\",\"request_seq\":6,"));
+    return 1;
+}
+
+static int answers(void) {
+    static const char *bad[] = {"null", "0.5", "{", "\xff"};
+    if (!hear("{\"seq\":1,\"type\":\"request\",\"command\":\"initialize\",\"arguments\":{\"adapterID\":\"x\"}}")) return 0;
+    CHECK(has("\"supportsCompletionsRequest\":true") && has("\"supportsStepBack\":true") && are_lent(0));
+    if (!hear("{\"seq\":2,\"type\":\"request\",\"command\":\"completions\",\"arguments\":{\"text\":\"pri\",\"column\":4}}")) return 0;
+    if (!hear("{\"seq\":3,\"type\":\"request\",\"command\":\"mine\"}")) return 0;
+    if (!hear("{\"seq\":4,\"type\":\"request\",\"command\":\"completions\",\"arguments\":{\"text\":\"x\",\"column\":2}}")) return 0;
+    CHECK(!written[0] && is_lent(0, 2, "completions") && is_lent(1, 3, "mine") && is_lent(2, 4, "completions") && are_lent(3));
+    for (size_t n = 0; n < sizeof bad / sizeof *bad; n++) CHECK(respond(3, true, "", bad[n]) == YT_BAD_ARGUMENTS && !written[0]);
+    CHECK(respond(3, false, "\xff", "") == YT_BAD_ARGUMENTS && respond(1, true, "", "") == YT_NOT_LENT && respond(9, true, "", "") == YT_NOT_LENT);
+    CHECK(are_lent(3));
+    CHECK(respond(3, false, "notNow", "{\"error\":{\"id\":7,\"format\":\"Not now.\"}}") == YT_OK);
+    CHECK(has("{\"body\":{\"error\":{\"format\":\"Not now.\",\"id\":7}},\"command\":\"mine\",\"message\":\"notNow\",\"request_seq\":3,\"seq\":"));
+    CHECK(has("\"success\":false,\"type\":\"response\"}") && is_lent(0, 2, "completions") && is_lent(1, 4, "completions") && are_lent(2));
+    CHECK(respond(3, true, "", "") == YT_NOT_LENT && !written[0]);
+    CHECK(respond(2, true, "\xff", "{\"targets\":[{\"label\":\"print\"}]}") == YT_OK); /* no message is looked at */
+    CHECK(has("{\"body\":{\"targets\":[{\"label\":\"print\"}]},\"command\":\"completions\",\"request_seq\":2,\"seq\":") && !has("\"message\""));
+    CHECK(has("\"success\":true,\"type\":\"response\"}") && is_lent(0, 4, "completions") && are_lent(1));
+    CHECK(respond(2, true, "", "") == YT_NOT_LENT && !written[0]);
+    CHECK(respond(4, false, "", "") == YT_OK && has("{\"command\":\"completions\",\"message\":\"\",\"request_seq\":4,") && are_lent(0));
+    return 1;
+}
+
 static void open_adapter(void) {
     yt_limits limits;
     yt_limits_usual(&limits);
@@ -302,6 +377,23 @@ static void second_session(void) {
     yt_adapter_free(&adapter);
 }
 
+static uint32_t open_commands(void) {
+    yt_limits limits;
+    yt_limits_usual(&limits);
+    return yt_adapter_open_commands(&adapter, &limits, BYTES(BASE), BYTES(""), BYTES("[\"completions\",{\"name\":\"mine\",\"inStops\":false}]"));
+}
+
+static void third_session(void) {
+    uint32_t code = open_commands();
+    if (code == YT_NO_MEMORY) {
+        CHECK(!adapter.full);
+        code = open_commands();
+    }
+    CHECK(code == YT_OK);
+    if (answers()) answers_in_turn();
+    yt_adapter_free(&adapter);
+}
+
 /* How much of output can be told at once. */
 static void pieces(void) {
     static const char bad[][4] = {"\xff", "x\x80", "\xe2\x82", "\xc0\x80"};
@@ -321,12 +413,25 @@ static void pieces(void) {
     CHECK(yt_output_piece(much, 130, &length) == YT_BAD_ARGUMENTS && length == 128);
 }
 
+static void opens_commands(const yt_limits *limits) {
+    static const char *none[] = {"", "{}", "\"completions\"", "[7]", "[{}]", "[\"next\"]", "[\"cancel\"]", "[\"mine\",\"mine\"]", "[{\"name\":\"mine\",\"inStops\":1}]", "["};
+    for (size_t n = 0; n < sizeof none / sizeof *none; n++)
+        CHECK(yt_adapter_open_commands(&adapter, limits, BYTES(BASE), BYTES("{}"), BYTES(none[n])) == YT_BAD_ARGUMENTS && !adapter.full);
+    CHECK(yt_adapter_open_commands(&adapter, limits, BYTES("{}"), BYTES(""), BYTES("[]")) == YT_BAD_RECORDING && !adapter.full);
+    CHECK(yt_adapter_open_commands(&adapter, limits, BYTES(BASE), BYTES("[]"), BYTES("[]")) == YT_BAD_ARGUMENTS && !adapter.full);
+    CHECK(yt_adapter_open_commands(&adapter, limits, BYTES(BASE), BYTES("{\"supportsRestartFrame\":true}"), BYTES("[]")) == YT_BAD_ARGUMENTS);
+    CHECK(yt_adapter_open_commands(&adapter, limits, BYTES(BASE), BYTES("{\"supportsRestartFrame\":true}"), BYTES("[\"restartFrame\"]")) == YT_OK);
+    CHECK(yt_adapter_open_commands(&adapter, limits, BYTES(BASE), BYTES("{\"supportsRestartFrame\":false}"), BYTES("[\"restartFrame\"]")) == YT_BAD_ARGUMENTS);
+    CHECK(yt_adapter_open_commands(&adapter, limits, BYTES(BASE), BYTES(""), BYTES("[]")) == YT_OK && yt_adapter_respond(&adapter, 1, true, BYTES(""), BYTES(""), &found) == YT_NOT_LENT);
+}
+
 static void nothing_is_held(void) {
     yt_limits limits;
     yt_limits_usual(&limits);
     yt_act act;
     yt_adapter_seen seen;
     yt_target target;
+    yt_lent lent;
     uint8_t out[1];
     uint32_t line[1];
     CHECK(yt_adapter_open(&adapter, &limits, BYTES("{}")) == YT_BAD_RECORDING && !adapter.full);
@@ -348,10 +453,13 @@ static void nothing_is_held(void) {
     CHECK(yt_adapter_lines(&adapter, line, 1) == YT_NONE && yt_adapter_source(&adapter, out, 1) == YT_NONE);
     CHECK(yt_adapter_name(&adapter, out, 1) == YT_NONE && yt_adapter_value(&adapter, out, 1) == YT_NONE);
     CHECK(yt_adapter_state(&adapter, &seen) == YT_NONE && yt_adapter_target(&adapter, 1, &target) == YT_NONE);
+    CHECK(yt_adapter_lent(&adapter, 0, &lent) == YT_NONE && yt_adapter_lent_command(&adapter, 0, out, 1) == YT_NONE);
+    CHECK(yt_adapter_respond(&adapter, 1, true, BYTES(""), BYTES(""), &found) == YT_NONE);
     yt_adapter_free(&adapter);
     CHECK(yt_adapter_open_with(&adapter, &limits, BYTES(BASE), BYTES("{\"supportsStepBack\":false,\"supportsLogPoints\":true}")) == YT_OK);
     CHECK(yt_adapter_open_with(&adapter, &limits, BYTES(BASE), BYTES("{\"supportsRestartFrame\":true}")) == YT_BAD_ARGUMENTS && !adapter.full);
     CHECK(yt_adapter_open_with(&adapter, &limits, BYTES(BASE), BYTES("[]")) == YT_BAD_ARGUMENTS);
+    opens_commands(&limits);
     CHECK(yt_adapter_open(&adapter, &limits, BYTES("{\"sources\":[{}]}")) == YT_BAD_RECORDING);
     CHECK(yt_adapter_open(&adapter, &limits, BYTES(RECORDING)) == YT_OK); /* what else it has is not looked at */
     CHECK(yt_adapter_open(&adapter, &limits, BYTES(BASE)) == YT_OK);
@@ -380,6 +488,7 @@ static void nothing_is_held(void) {
     CHECK(yt_adapter_ahead(&adapter, BYTES("{\"placed\":{\"sourceReference\":1},\"breakpoints\":[]}")) == YT_OK);
     CHECK(yt_adapter_take(&adapter, BYTES("Content-Length: 2\r\n\r\n[]"), &found) == YT_BODY && found.at == 0 && found.cause == 2);
     CHECK(yt_adapter_turn(&adapter, &found) == YT_BODY && yt_adapter_continued(&adapter, 1, &found) == YT_BODY);
+    CHECK(yt_adapter_respond(&adapter, 1, true, BYTES(""), BYTES(""), &found) == YT_ENDED && found.bytes == 0);
     yt_adapter_free(&adapter);
 }
 
@@ -388,5 +497,6 @@ int main(void) {
     pieces();
     refuse_each("first session", first_session);
     refuse_each("second session", second_session);
+    refuse_each("third session", third_session);
     return wrong != 0;
 }

@@ -482,6 +482,14 @@ fn offers_line(alloc: Global, name: &str, fault: &OffersFault) -> Result<Vec<u8>
             line.extend_from_slice(key.as_str().as_bytes())?;
             line.extend_from_slice(b" of offers is refused: it can't be offered\n")?;
         }
+        OffersFault::NotList => {
+            line.extend_from_slice(b": the key open is refused: it is no list of names\n")?;
+        }
+        OffersFault::BadName(name) => {
+            line.extend_from_slice(b": the name ")?;
+            line.extend_from_slice(name.as_str().as_bytes())?;
+            line.extend_from_slice(b" of open is refused: it can't be opened\n")?;
+        }
         OffersFault::TooLarge => {
             line.extend_from_slice(
                 b": the key offers is refused: it is too long for a response\n",

@@ -22,7 +22,10 @@ use Rattle.std.specs.Prelude.{is_some}
 use Rattle.dap_plan.specs.SessionState.{SessionState, AppendsSome, Carries, HasTurned}
 use Rattle.dap_plan.specs.Session.{Session, IsOrderly, opened_session}
 use Rattle.dap_plan.specs.Within.{IsWithin, EachStepStaysWithin}
-use Rattle.dap_adapter.specs.Calls.{Step, Handled, Saw, Emits}
+use Rattle.dap_message.specs.declared.outcome.Outcome.{Outcome}
+use Rattle.dap_plan.specs.Responding.{IsLent, first_respond_fault, respond_faults, responds}
+use Rattle.dap_session.specs.SessionCalls.{HasResponded}
+use Rattle.dap_adapter.specs.Calls.{Step, Handled, Saw, Emits, Responds}
 use Rattle.dap_adapter.specs.AdapterState.{AdapterState, state_of}
 use Rattle.dap_adapter.specs.StandsFor.{GoesOn}
 use Rattle.dap_adapter.proofs.Readable.{step-reads}
@@ -143,3 +146,43 @@ emits-all grow ranges laws within follows name body old new from to (Ok x) close
     let used : new.session.used ≤ old.session.limits.seq = rw (a, b) at w in
     record { bytes = there.bytes; items = there.items; holds = emits-event grow ranges laws within follows name body old new there.bytes from to a b i fault limits open_so there.holds used }
 emits-all grow ranges laws within follows name body old new from to (Err e) closed before after c a b i fault limits free there w = tt
+
+-- ---- a lent request that is answered
+
+is-open-to : (fault : Option AdapterFault) (seq : ℕ) (o : Outcome) (s : Session) → first_respond_fault respond_faults seq o (is_some fault) s ≡ None → fault ≡ None
+is-open-to None seq o s e = refl
+is-open-to (Some f) seq o s e = absurd (cc e)
+
+responds-to : {D : Type 0} (grow : HistoriesGrow) (ranges : ReadIsInRange) (laws : EachStepGoesOn) (within : EachStepStaysWithin) (follows : Goes D) (seq : ℕ) (o : Outcome) (old new : AdapterState D) (bytes : List ℕ) (from to : SessionState D)
+    → from ≡ state_of old → to ≡ state_of new → new.intake ≡ old.intake
+    → new.fault ≡ old.fault → new.session.limits ≡ old.session.limits
+    → first_respond_fault respond_faults seq o (is_some old.fault) old.session ≡ None
+    → HasResponded follows seq o from to bytes → new.session.used ≤ old.session.limits.seq → Responds follows seq o old bytes new
+responds-to grow ranges laws within follows seq o old new bytes from to a b i fault limits free c w =
+    let lent : IsLent old.session c.entry = subst (λ (x : SessionState _). IsLent x.session c.entry) a c.lent in
+    record {
+      free = free;
+      entry = c.entry;
+      number = c.number;
+      lent = lent;
+      intake = i;
+      fault = fault;
+      debuggee = rw (a, b) at c.carries.step.carried.1;
+      limits = limits;
+      step = stepped grow ranges laws follows (responds c.entry o old.session) old new bytes from to a b i (fault ∙ is-open-to old.fault seq o old.session free) limits (subst (λ (x : SessionState _). Carries follows (responds c.entry o x.session) from to bytes) a c.carries)
+          (λ made h can in_range f. laws.respond c.entry o old.session made h (orderly old.session in_range) lent can f)
+          (λ made can is in_range. within.respond c.entry o old.session made in_range lent can (subst (λ (x : Session). x.used ≤ old.session.limits.seq) is w));
+      within = w;
+    }
+
+-- the same of a call that appends it
+pub responds-all : {D T E : Type 0} (grow : HistoriesGrow) (ranges : ReadIsInRange) (laws : EachStepGoesOn) (within : EachStepStaysWithin) (follows : Goes D) (seq : ℕ) (o : Outcome) (old new : AdapterState D) (from to : SessionState D) (r : Result T E) (closed : Bool) (before after : List ℕ)
+    → closed ≡ is_some old.fault → from ≡ state_of old → to ≡ state_of new → new.intake ≡ old.intake → new.fault ≡ old.fault → new.session.limits ≡ old.session.limits
+    → OnOk r (first_respond_fault respond_faults seq o closed from.session ≡ None) → OnOk r (AppendsSome (λ bytes. HasResponded follows seq o from to bytes) before after) → OnOk r (to.session.used ≤ from.session.limits.seq)
+    → OnOk r (AppendsSome (λ bytes. Responds follows seq o old bytes new) before after)
+responds-all grow ranges laws within follows seq o old new from to (Ok x) closed before after c a b i fault limits free there w =
+    let none : first_respond_fault respond_faults seq o closed old.session ≡ None = rw a at free in
+    let open_so : first_respond_fault respond_faults seq o (is_some old.fault) old.session ≡ None = subst (λ (k : Bool). first_respond_fault respond_faults seq o k old.session ≡ None) c none in
+    let used : new.session.used ≤ old.session.limits.seq = rw (a, b) at w in
+    record { bytes = there.bytes; items = there.items; holds = responds-to grow ranges laws within follows seq o old new there.bytes from to a b i fault limits open_so there.holds used }
+responds-all grow ranges laws within follows seq o old new from to (Err e) closed before after c a b i fault limits free there w = tt

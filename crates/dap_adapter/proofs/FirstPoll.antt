@@ -1,5 +1,5 @@
 -- `tell` polls, and polls again only where that told something.
-use Rattle.std.proofs.Common.{◌≡◌, ◌⊎◌, ℕ, ◌+◌, List, [], ◌∷◌, ◌++◌, Bool, true, false, refl, sym, ap, ◌∙◌, subst, append_assoc, append-nil, inl, inr}
+use Rattle.std.proofs.Common.{◌≡◌, ◌⊎◌, ℕ, ◌+◌, List, [], ◌++◌, Bool, true, false, refl, sym, ap, ◌∙◌, subst, append_assoc, append-nil, inl, inr}
 use Rattle.std.specs.Prelude.{if◌then◌else◌}
 use Rattle.dap_debuggee.specs.Shown.{Shown}
 use Rattle.dap_envelope.specs.declared.message.Message.{Message}
@@ -8,8 +8,8 @@ use Rattle.dap_plan.specs.Carried.{Goes}
 use Rattle.dap_plan.specs.Plan.{written_by}
 use Rattle.dap_plan.specs.Polling.{polls}
 use Rattle.dap_plan.specs.SessionState.{SessionState, SessionStep}
-use Rattle.dap_adapter.specs.AdapterState.{AdapterState, state_of}
-use Rattle.dap_adapter.specs.Polled.{Polled, not_polled, polled_more, PollsFirst, TellPollsFirst}
+use Rattle.dap_adapter.specs.AdapterState.{state_of}
+use Rattle.dap_adapter.specs.Polled.{not_polled, polled_more, PollsFirst, TellPollsFirst}
 use Rattle.dap_adapter.specs.Run.{Next, to_take, to_turn, to_poll, is_last_poll, after_poll, Run, begins, delivers, handles, idles, sees}
 use Rattle.dap_adapter.proofs.StreamLemmas.{not_empty}
 

@@ -1,5 +1,5 @@
 -- A piece that comes in two: what is answered of one and then of the other is what is answered of both.
-use Rattle.std.proofs.Common.{◌≡◌, ℕ, ◌≤◌, List, [], ◌∷◌, ◌++◌, length, take, Bool, true, false, None, Result, Ok, Err, refl, sym, ap, ◌∙◌, subst, arith, append_assoc, append-nil}
+use Rattle.std.proofs.Common.{◌≡◌, ℕ, ◌≤◌, List, [], ◌∷◌, ◌++◌, length, take, Bool, true, false, None, Result, Ok, Err, sym, ap, ◌∙◌, subst, arith, append_assoc, append-nil}
 use Rattle.std.specs.Prelude.{codes, decimal, IfOk, IfErr}
 use Rattle.std.proofs.lemmas.List.{length-append, take-append-le}
 use Rattle.dap_debuggee.specs.Shown.{Shown}
@@ -8,7 +8,7 @@ use Rattle.dap_frame.specs.Feeds.{Completes, Closes}
 use Rattle.dap_frame.specs.Intake.{Intake, StandsFor as StandsForStream}
 use Rattle.dap_frame.specs.Written.{frame_of}
 use Rattle.dap_frame.specs.declared.frames.FrameFault.{FrameFault}
-use Rattle.dap_history.specs.Pieces.{Whole, FrameClosed, BodyRefused}
+use Rattle.dap_history.specs.Pieces.{Whole}
 use Rattle.dap_outbox.specs.Draft.{bytes_of}
 use Rattle.dap_plan.specs.Carried.{Goes}
 use Rattle.dap_plan.specs.SessionState.{SessionState}
@@ -16,7 +16,7 @@ use Rattle.dap_plan.specs.declared.fault.AdapterFault.{AdapterFault}
 use Rattle.dap_plan.specs.declared.fault.AdapterFault.TheVariants.{SeqExhausted, OutOfMemory, Frame, Body, RepeatedSeq, Unmatched, CommandMismatch, Ended}
 use Rattle.dap_adapter.specs.AdapterState.{AdapterState, state_of}
 use Rattle.dap_adapter.specs.Calls.{ClosedBy, TakeRefused}
-use Rattle.dap_adapter.specs.Parts.{AnswersPiece, CallRefused, StopsAtCall, StopsAfter}
+use Rattle.dap_adapter.specs.Parts.{AnswersPiece, CallRefused, StopsAfter}
 use Rattle.dap_adapter.specs.Run.{Next, to_take, to_turn, to_poll}
 use Rattle.dap_adapter.proofs.Outgoing.{bytes_of-append}
 use Rattle.dap_adapter.proofs.RunningOn.{runs_on_then}

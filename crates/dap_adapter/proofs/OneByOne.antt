@@ -1,19 +1,20 @@
 -- An adapter between two messages: what was used is whole frames, and the frame of a body makes one more.
-use Rattle.std.proofs.Common.{◌≡◌, ◌≤◌, ℕ, List, [], ◌∷◌, ◌++◌, length, Bool, Option, false, append-nil, refl, sym, ap, ◌∙◌, subst}
+use Rattle.std.proofs.Common.{◌≡◌, ◌≤◌, ℕ, List, [], ◌∷◌, ◌++◌, length, Bool, false, append-nil, refl, sym, ap, ◌∙◌, subst}
 use Rattle.dap_debuggee.specs.Shown.{Shown}
 use Rattle.dap_envelope.specs.declared.message.Message.{Message}
 use Rattle.dap_frame.specs.Laws.{EachStreamHasOneSplit, WrittenIsReadAgain, FrameHasNoFrameWithin}
-use Rattle.dap_frame.specs.Settings.{AreInRange, bounds_of}
+use Rattle.dap_frame.specs.Settings.{bounds_of}
 use Rattle.dap_frame.specs.Stream.{NoFrame, Split}
 use Rattle.dap_frame.specs.Written.{frame_of}
 use Rattle.dap_frame.specs.declared.limits.Bounds.{Bounds}
 use Rattle.dap_plan.specs.Carried.{Goes}
 use Rattle.dap_plan.specs.SessionState.{SessionState}
 use Rattle.dap_adapter.specs.AdapterState.{AdapterState, state_of}
-use Rattle.dap_adapter.specs.Calls.{Emits, Exchanges}
+use Rattle.dap_plan.specs.Emitting.{emits}
+use Rattle.dap_plan.specs.Responding.{responds}
+use Rattle.dap_adapter.specs.Calls.{Step, Exchanges}
 use Rattle.dap_frame.specs.Intake.{Intake}
-use Rattle.dap_plan.specs.Plan.{entries_of}
-use Rattle.serde_json.specs.Data.{Data}
+use Rattle.dap_plan.specs.Plan.{Plan, entries_of}
 use Rattle.dap_adapter.specs.Bodies.{IsBetween, BodiesComeOneByOne}
 use Rattle.dap_adapter.specs.Parts.{StandsThere, RunsOn, AnswersPiece, PollsOn}
 use Rattle.dap_adapter.specs.PrivateStreams.{StreamLaws}
@@ -59,11 +60,12 @@ module _ {D : Type 0} (shown : D → Shown) (follows : Goes D) (one : EachStream
   pub told_between : (a : AdapterState D) (before after : List ℕ) → PollsOn shown follows e before a after → IsBetween a
   told_between a before after polls = between a (to_poll 0) to_take [] polls.outs polls.runs_on (none_used a (to_poll 0) to_take [] polls.outs polls.runs_on refl)
 
-  pub emitted_between : (a : AdapterState D) (name : List ℕ) (body : Option Data) (bytes : List ℕ) → Emits follows name body e bytes a → IsBetween a
-  emitted_between a name body bytes emits =
-      let history = at.history ++ ([] ++ entries_of e.session.used emits.step.session.made) in
-      let stands : StandsFor a at.used history = subst (λ (z : List ℕ). StandsFor a z history) (append-nil at.used) (emits.step.goes_on at.used at.history at.stands) in
-      let same : a.intake.bounds ≡ bounds = ap (λ (i : Intake). i.bounds) emits.intake ∙ at.stands.bounds in
+  -- after a step with no bytes of the client
+  pub stepped_between : (a : AdapterState D) (plan : Plan) (bytes : List ℕ) → a.intake ≡ e.intake → (t : Step follows plan e a [] [] bytes) → IsBetween a
+  stepped_between a plan bytes intake t =
+      let history = at.history ++ ([] ++ entries_of e.session.used t.session.made) in
+      let stands : StandsFor a at.used history = subst (λ (z : List ℕ). StandsFor a z history) (append-nil at.used) (t.goes_on at.used at.history at.stands) in
+      let same : a.intake.bounds ≡ bounds = ap (λ (i : Intake). i.bounds) intake ∙ at.stands.bounds in
       let split = subst (λ (b : Bounds). Split b at.used stands.received.bodies stands.received.rest) same stands.received.stream.split in
       record {
         used = at.used;
@@ -120,6 +122,7 @@ one_by_one shown follows written one within = record {
   fresh = λ e range stands. fresh_between e (stream_laws e.session.limits range written one within) stands;
   answered = λ old new body before after ended at range fits going a. body_taken shown follows one old at (stream_laws old.session.limits range written one within) body fits going new before after ended a;
   told = λ old new before after at polls. told_between shown follows one old at new before after polls;
-  emitted = λ old new name body bytes at e. emitted_between shown follows one old at new name body bytes e;
+  emitted = λ old new name body bytes at e. stepped_between shown follows one old at new (emits name body old.session) bytes e.intake e.step;
+  responded = λ old new seq o bytes at e. stepped_between shown follows one old at new (responds e.entry o old.session) bytes e.intake e.step;
   exchanged = λ old new at e. exchanged_between shown old new at e;
 }

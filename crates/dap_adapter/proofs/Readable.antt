@@ -14,9 +14,10 @@ use Rattle.dap_envelope.specs.declared.message.Message.{Message}
 use Rattle.dap_envelope.specs.declared.message.Kind.{Kind}
 use Rattle.dap_envelope.specs.declared.message.Kind.TheVariants.{Request, Response, Event, Other}
 use Rattle.dap_tables.specs.declared.entry.Entry.{Entry as Kept}
+use Rattle.dap_message.specs.declared.outcome.Outcome.TheVariants.{Success, Failure}
 use Rattle.dap_outbox.specs.InRange.{IsRequestInRange, AnswersInRange}
 use Rattle.dap_plan.specs.Plan.{Made, references_end_if, entries_of}
-use Rattle.dap_outbox.specs.Draft.{Answer, success, failure, explained, Draft, reply, emit, ask, message_of, names_of, numbered_messages, outs}
+use Rattle.dap_outbox.specs.Draft.{Answer, success, failure, explained, came_out, Draft, reply, emit, ask, message_of, names_of, numbered_messages, outs}
 use Rattle.dap_adapter.specs.AdapterState.{AdapterState}
 use Rattle.dap_adapter.specs.StandsFor.{StandsFor, GoesOn}
 
@@ -95,6 +96,8 @@ answer-in-range : (n : ℕ) (r : Kept) (answer : Answer) (qs : List Asked) → A
 answer-in-range n r (success body names) qs a w = answered-in-range r qs a w
 answer-in-range n r (failure f) qs a w = answered-in-range r qs a w
 answer-in-range n r (explained told) qs a w = answered-in-range r qs a w
+answer-in-range n r (came_out (Success body)) qs a w = answered-in-range r qs a w
+answer-in-range n r (came_out (Failure message body)) qs a w = answered-in-range r qs a w
 
 moved : (before : List Entry) (e : Entry) (after all : List Entry) → before ++ e ∷ after ≡ all → (before ++ e ∷ []) ++ after ≡ all
 moved before e after all is = append_assoc before (e ∷ []) after ∙ is

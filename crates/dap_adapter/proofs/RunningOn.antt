@@ -13,14 +13,15 @@ use Rattle.dap_envelope.specs.declared.message.Message.{Message}
 use Rattle.dap_debuggee.specs.Shown.{Shown}
 use Rattle.dap_plan.specs.Carried.{Goes}
 use Rattle.dap_plan.specs.Handling.{turns}
-use Rattle.dap_plan.specs.Plan.{written_by, entries_of}
+use Rattle.dap_plan.specs.Plan.{Plan, written_by, entries_of}
 use Rattle.dap_outbox.specs.Draft.{bytes_of}
 use Rattle.dap_plan.specs.Session.{Session}
 use Rattle.dap_plan.specs.SessionState.{SessionState}
 use Rattle.dap_adapter.specs.PrivateServing.{next_if}
-use Rattle.dap_adapter.specs.Parts.{MayBeHeld, RunsOn, PartsJoin, InTurn, none_made, answered, told as told_since, emitted, exchanged, StandsInTurn, CallsInTurnAddUp}
-use Rattle.dap_adapter.specs.Calls.{Handled, Saw, Delivers, Waits, Takes, Exchanges, Emits}
-use Rattle.serde_json.specs.Data.{Data}
+use Rattle.dap_adapter.specs.Parts.{MayBeHeld, RunsOn, PartsJoin, InTurn, none_made, answered, told as told_since, emitted, responded, exchanged, StandsInTurn, CallsInTurnAddUp}
+use Rattle.dap_adapter.specs.Calls.{Step, Handled, Saw, Delivers, Waits, Takes, Exchanges}
+use Rattle.dap_plan.specs.Emitting.{emits}
+use Rattle.dap_plan.specs.Responding.{responds}
 use Rattle.dap_adapter.specs.AdapterState.{AdapterState, state_of}
 use Rattle.dap_adapter.specs.StandsFor.{StandsFor}
 use Rattle.dap_adapter.specs.Run.{Next, to_take, to_turn, to_poll, has_ended, after_poll, Run, begins, handles as one_handled, idles, sees, delivers}
@@ -259,20 +260,21 @@ module _ {D : Type 0} (shown : D → Shown) (follows : Goes D) where
     pub stands : StandsInTurn old new s h outs
     pub limits : new.session.limits ≡ old.session.limits
 
-  emitted_more : (old m n : AdapterState D) (s : List ℕ) (h : List Entry) (outs : List Message) (name : List ℕ) (body : Option Data) (bytes : List ℕ) → InTurnLimits old m s h outs → (e : Emits follows name body m bytes n) → InTurnLimits old n s h (outs ++ written_by m.session e.step.session.made)
-  emitted_more old m n s h outs name body bytes x e =
-      let nows : List Message = written_by m.session e.step.session.made in
-      let entries : List Entry = [] ++ entries_of m.session.used e.step.session.made in
+  -- a step with no bytes of the client
+  stepped_more : (old m n : AdapterState D) (s : List ℕ) (h : List Entry) (outs : List Message) (plan : Plan) (bytes : List ℕ) → InTurnLimits old m s h outs → n.session.limits ≡ m.session.limits → (t : Step follows plan m n [] [] bytes) → InTurnLimits old n s h (outs ++ written_by m.session t.session.made)
+  stepped_more old m n s h outs plan bytes x limits t =
+      let nows : List Message = written_by m.session t.session.made in
+      let entries : List Entry = [] ++ entries_of m.session.used t.session.made in
       let was = x.stands in
-      let stands = subst (λ (z : List ℕ). StandsFor n z ((h ++ was.more) ++ entries)) (append-nil s) (e.step.goes_on s (h ++ was.more) was.stands) in
+      let stands = subst (λ (z : List ℕ). StandsFor n z ((h ++ was.more) ++ entries)) (append-nil s) (t.goes_on s (h ++ was.more) was.stands) in
       record {
         stands = record {
           more = was.more ++ entries;
           stands = subst (λ (z : List Entry). StandsFor n s z) (append_assoc h was.more entries) stands;
-          went = ap outs_of (sym (append_assoc h was.more entries)) ∙ (e.step.went (h ++ was.more) ∙ (ap (λ (ms : List Message). ms ++ nows) was.went ∙ append_assoc (outs_of h) outs nows));
-          reads_back = all_append (ReadsBack old.session.limits.body) outs nows was.reads_back (subst (λ (z : Settings). AllReadBack z.body nows) x.limits (e.step.reads_back s (h ++ was.more) was.stands));
+          went = ap outs_of (sym (append_assoc h was.more entries)) ∙ (t.went (h ++ was.more) ∙ (ap (λ (ms : List Message). ms ++ nows) was.went ∙ append_assoc (outs_of h) outs nows));
+          reads_back = all_append (ReadsBack old.session.limits.body) outs nows was.reads_back (subst (λ (z : Settings). AllReadBack z.body nows) x.limits (t.reads_back s (h ++ was.more) was.stands));
         };
-        limits = e.limits ∙ x.limits;
+        limits = limits ∙ x.limits;
       }
 
   exchanged_more : (old m n : AdapterState D) (s : List ℕ) (h : List Entry) (outs : List Message) → InTurnLimits old m s h outs → Exchanges shown m n → InTurnLimits old n s h outs
@@ -308,7 +310,8 @@ module _ {D : Type 0} (shown : D → Shown) (follows : Goes D) where
         stands = one_more old m n s used [] used h outs nows (to_poll 0) there.stands there.limits r (append-nil (s ++ used));
         limits = r.limits ∙ there.limits;
       }
-  in_turn old s h x _ _ _ (emitted used outs name body bytes m n y e) = emitted_more old m n (s ++ used) h outs name body bytes (in_turn old s h x used outs m y) e
+  in_turn old s h x _ _ _ (emitted used outs name body bytes m n y e) = stepped_more old m n (s ++ used) h outs (emits name body m.session) bytes (in_turn old s h x used outs m y) e.limits e.step
+  in_turn old s h x _ _ _ (responded used outs seq o bytes m n y e) = stepped_more old m n (s ++ used) h outs (responds e.entry o m.session) bytes (in_turn old s h x used outs m y) e.limits e.step
   in_turn old s h x _ _ _ (exchanged used outs m n y e) = exchanged_more old m n (s ++ used) h outs (in_turn old s h x used outs m y) e
 
   pub calls_add_up : CallsInTurnAddUp shown follows

@@ -11,7 +11,7 @@ use Rattle.dap_tables.specs.Outstanding.{Kept}
 use Rattle.dap_debuggee.specs.Shown.{Shown}
 use Rattle.dap_plan.specs.declared.fault.AdapterFault.{AdapterFault}
 use Rattle.dap_plan.specs.declared.fault.AdapterFault.TheVariants.{SeqExhausted, OutOfMemory, Frame, Body, RepeatedSeq, Unmatched, CommandMismatch, Ended}
-use Rattle.dap_plan.specs.Handling.{turns, turn_of, some_plan, plan}
+use Rattle.dap_plan.specs.Handling.{turns, turn_of, some_plan, plan_of_turn}
 use Rattle.dap_plan.specs.Plan.{Plan, messages_due}
 use Rattle.dap_plan.specs.Session.{Session, oldest}
 use Rattle.dap_history.specs.Pieces.{FrameClosed, BodyRefused}
@@ -31,7 +31,7 @@ some_refused false p fault e = cc
 
 turn_refused : (view : Shown) (s : Session) (o : Option Kept) (fault : AdapterFault) → turn_of view s o ≡ Err fault → SeqExhausted ≡ fault
 turn_refused view s None fault e = cc
-turn_refused view s (Some k) fault e = let p = plan view s k.entry in some_refused (nat_le (s.used + messages_due p) s.limits.seq) p fault e
+turn_refused view s (Some k) fault e = let p = plan_of_turn view s k.entry in some_refused (nat_le (s.used + messages_due p) s.limits.seq) p fault e
 
 not_frame : (f : FrameFault) → SeqExhausted ≡ Frame f → ⊥
 not_frame f e = cc

@@ -25,6 +25,10 @@ use Rattle.dap_outbox.specs.Draft.{bytes_of}
 use Rattle.dap_plan.specs.Polling.{polls, has_debuggee}
 use Rattle.dap_plan.specs.Emitting.{IsWhyNotEmitted, emit_faults, emits, first_emit_fault}
 use Rattle.dap_plan.specs.declared.fault.EmitFault.{EmitFault}
+use Rattle.dap_plan.specs.Responding.{IsLent, IsWhyNotResponded, first_respond_fault, respond_faults, responds}
+use Rattle.dap_plan.specs.declared.fault.RespondFault.{RespondFault}
+use Rattle.dap_message.specs.declared.outcome.Outcome.{Outcome}
+use Rattle.dap_tables.specs.declared.entry.Entry.{Entry as Request}
 use Rattle.serde_json.specs.Data.{Data}
 use Rattle.dap_plan.specs.SessionState.{SessionState, SessionStep, IsUnasked, HasTooMany, AppendsSome}
 use Rattle.dap_plan.specs.Session.{Session, oldest, to_handle}
@@ -155,6 +159,25 @@ pub record Emits {D : Type 0} (follows : Goes D) (name : List ℕ) (body : Optio
 -- why it was not
 abbrev pub NotEmitted : {D : Type 0} → List ℕ → Option Data → AdapterState D → EmitFault → Type 0
 NotEmitted name body old fault = IsWhyNotEmitted fault name body (is_some old.fault) old.session
+
+-- ---- respond
+
+-- the lent request with this number was answered as it came out: no refusal holds, its response is written, and it is kept no more
+pub record Responds {D : Type 0} (follows : Goes D) (seq : ℕ) (o : Outcome) (old : AdapterState D) (bytes : List ℕ) (new : AdapterState D) : Type 0 where
+  pub free : first_respond_fault respond_faults seq o (is_some old.fault) old.session ≡ None
+  pub entry : Request
+  pub number : entry.seq ≡ seq
+  pub lent : IsLent old.session entry
+  pub intake : new.intake ≡ old.intake
+  pub fault : new.fault ≡ old.fault
+  pub debuggee : new.debuggee ≡ old.debuggee
+  pub limits : new.session.limits ≡ old.session.limits
+  pub step : Step follows (responds entry o old.session) old new [] [] bytes
+  pub within : new.session.used ≤ old.session.limits.seq
+
+-- why it was not
+abbrev pub NotResponded : {D : Type 0} → ℕ → Outcome → AdapterState D → RespondFault → Type 0
+NotResponded seq o old fault = IsWhyNotResponded fault seq o (is_some old.fault) old.session
 
 -- ---- the same, of what a call gives
 

@@ -15,7 +15,7 @@ use Rattle.dap_plan.specs.Plan.{Plan, written_by}
 use Rattle.dap_outbox.specs.Draft.{bytes_of}
 use Rattle.dap_plan.specs.Polling.{polls}
 use Rattle.dap_plan.specs.SessionState.{SessionState, SessionStep}
-use Rattle.dap_plan.specs.Session.{Session, fresh_session}
+use Rattle.dap_plan.specs.Session.{Session}
 use Rattle.dap_decision.specs.Table.{is_phase}
 use Rattle.dap_plan.specs.Taking.{takes}
 

@@ -5,7 +5,7 @@ ghost use Rattle.dap_frame.specs.Ends.{EndsWith};
 ghost use Rattle.dap_frame.specs.Intake.{StandsFor as StandsForStream};
 ghost use Rattle.dap_frame.specs.declared.frames.End.{End};
 ghost use Rattle.dap_plan.specs.declared.fault.AdapterFault.{AdapterFault};
-ghost use Rattle.dap_adapter.specs.Calls.{Exchanges, IdlesWithNone, KeepsDebuggee, KeepsDebuggeeUnlessAsked, NotEmitted, PieceNotTakenUp, PollNotMade, PollsWithNone, TakeRefused, TurnNotMade};
+ghost use Rattle.dap_adapter.specs.Calls.{Exchanges, IdlesWithNone, KeepsDebuggee, KeepsDebuggeeUnlessAsked, NotEmitted, NotResponded, PieceNotTakenUp, PollNotMade, PollsWithNone, TakeRefused, TurnNotMade};
 ghost use Rattle.dap_frame.specs.Closed.{StaysClosed};
 ghost use Rattle.dap_adapter.specs.PrivateReceives.{HasReceived, IsBy};
 ghost use Rattle.dap_reader.specs.declared.fault.ReadFault.{ReadFault};
@@ -15,6 +15,9 @@ ghost use Rattle.dap_tables.specs.SourceMap.{count, set_of};
 ghost use Rattle.dap_plan.specs.Session.{fresh_session, opened_session, offers_fit, oldest, own_requests, to_handle};
 ghost use Rattle.dap_plan.specs.SessionState.{AppendsSome};
 ghost use Rattle.dap_json.specs.Writable.{is_plain_tree};
+ghost use Rattle.dap_message.specs.MessageParts.{is_plain_outcome};
+ghost use Rattle.dap_outbox.specs.Waiting.{lent_ones};
+ghost use Rattle.dap_tables.specs.Outstanding.{entries};
 ghost use Rattle.dap_decision.specs.Table.{is_phase};
 ghost use Rattle.dap_decision.specs.declared.phase.Phase.TheVariants.{Asked};
 
@@ -25,10 +28,11 @@ use dap_envelope::laws::read_is_in_range;
 use dap_frame::{End, Limits};
 use dap_history::laws::histories_grow;
 use dap_json::Tree;
+use dap_message::Outcome;
 use dap_plan::laws::{each_step_goes_on, each_step_stays_within};
-use dap_plan::{AdapterFault, EmitFault};
+use dap_plan::{AdapterFault, EmitFault, RespondFault};
 use dap_reader::{MessageReader, Next, ReadFault};
-use dap_session::{Phase, Session, usual_offers};
+use dap_session::{Lent, Phase, Session, usual_offers};
 use dap_tables::Target;
 use std::alloc::{AllocError, Global};
 use std::marker::Model;
@@ -57,7 +61,7 @@ impl<D: Debuggee + Drop> Model for Adapter<D> {
 }
 
 impl<D: Debuggee + Drop> Adapter<D> {
-    ghost use Rattle.dap_adapter.specs.Calls.{Takes, TakesUp, TurnGives, GivesTurn, Handled, LeavesFewer, Saw, Emits};
+    ghost use Rattle.dap_adapter.specs.Calls.{Takes, TakesUp, TurnGives, GivesTurn, Handled, LeavesFewer, Saw, Emits, Responds};
     ghost use Rattle.dap_adapter.specs.StandsFor.{StandsFor};
     ghost use Rattle.dap_adapter.specs.declared.taken.Turned.{Turned};
 
@@ -254,8 +258,8 @@ impl<D: Debuggee + Drop> Adapter<D> {
         }
     }
 
-    /// Handles the request that came first of those that are not parked: one that is parked now is not answered yet, any
-    /// other is.
+    /// Handles the request that came first of those that are not parked, or lends it where its command is opened: one that is
+    /// parked now, or lent, is not answered yet, any other is.
     ///
     /// # Errors
     /// `SeqExhausted` where more messages are due than own numbers are left: then neither the session nor the debuggee has
@@ -412,6 +416,48 @@ impl<D: Debuggee + Drop> Adapter<D> {
         each_step_stays_within();
         let closed = self.fault.is_some();
         self.session.emit(alloc, closed, event, body, out)
+    }
+
+    /// The requests that are lent, by arrival: those of commands that were opened, which had their turn and wait for an answer. Each
+    /// stays lent until [`respond`](Adapter::respond), a `cancel` that names it or `disconnect` answers it, as a law of
+    /// `dap_plan` says.
+    pub fn lent(&self) -> Lent<'_>
+        ensures { result ≡ entries (lent_ones self.now.session.kept) }
+    {
+        self.session.lent()
+    }
+
+    /// Answers the lent request with this number as it came out: the response is appended to `out`, with the next own number, and
+    /// the request is kept no more. The debuggee is asked nothing, and all else stays as it is. Lent requests may be answered in
+    /// any order. A refused call changes nothing, and the adapter goes on. A client may use the number of an answered request
+    /// again; the answer is then to the request that has it now.
+    ///
+    /// # Errors
+    /// The first of these that holds: `Closed` after a fault; `NotLent` where no request with this number is lent; `TooLarge`
+    /// where the body of the message would be longer than its limit; `SeqExhausted` where no own number is left. `OutOfMemory`
+    /// where memory is refused: never where one of the first two holds.
+    pub fn respond(
+        &mut self,
+        alloc: Global,
+        seq: u64,
+        outcome: &Outcome,
+        out: &mut Vec<u8>,
+    ) -> Result<(), RespondFault>
+        requires plain { IsTrue (is_plain_outcome outcome.now) }
+        ensures responds { OnOk result (AppendsSome (λ bytes. Responds D.follows seq outcome.now self.old bytes self.new) out.old.items out.new.items) }
+        ensures limits { self.new.session.limits ≡ self.old.session.limits }
+
+        // Why it is refused; then nothing has changed.
+        ensures refused { IfErr result (NotResponded seq outcome.now self.old) }
+        ensures unchanged { OnErr result (self.new ≡ self.old) }
+        ensures buffer { OnErr result (out.new.items ≡ out.old.items) }
+    {
+        histories_grow();
+        read_is_in_range();
+        each_step_goes_on();
+        each_step_stays_within();
+        let closed = self.fault.is_some();
+        self.session.respond(alloc, closed, seq, outcome, out)
     }
 
     /// How the client's bytes end, if no more come.

@@ -1,13 +1,15 @@
 -- What stands beside, where nothing was refused, can.
-use Rattle.std.proofs.Common.{◌≡◌, ℕ, suc, ◌≤◌, ◌&&◌, ◌||◌, List, Bool, true, false, not, nat_le, Option, Some, None, is_some, if◌then◌else◌, refl, sym, true≢false, arith}
+use Rattle.std.proofs.Common.{◌≡◌, ℕ, suc, ◌≤◌, ◌&&◌, ◌||◌, List, [], ◌∷◌, map, Bool, true, false, not, nat_le, Option, Some, None, is_some, if◌then◌else◌, refl, sym, true≢false, arith}
 use Rattle.std.proofs.lemmas.Bool.{leb-true, and_parts}
-use Rattle.serde_json.specs.Data.{Data, object, Members, no_members, member, put, depth, members_depth}
+use Rattle.serde_json.specs.Data.{Data, boolean, object, Members, no_members, member, put, depth, members_depth}
 use Rattle.serde_json.specs.Find.{as_bool}
 use Rattle.serde_json.specs.Written.{has_float, members_have_float}
 use Rattle.dap_json.specs.More.{more_of, more_nesting, members_in}
 use Rattle.dap_json.specs.Writable.{is_writable}
 use Rattle.dap_json.proofs.PlainPut.{put_float, put_depth}
-use Rattle.dap_command.specs.Offer.{is_among, served_flags, unserved_flags, reference_keys, is_refused, is_taken_back, refused_key, with_others, value_nesting}
+use Rattle.dap_command.specs.Offer.{is_among, served_flags, unserved_flags, reference_keys, is_said, is_refused, refused_key, with_others, with_flag_of, with_flags, beside_gates, value_nesting}
+use Rattle.dap_command.specs.Opening.{further_rows, is_offered}
+use Rattle.dap_command.specs.declared.opening.Opened.{Opened}
 
 -- no float, and no deeper than what may be at a key
 record ArePlain (ms : Members) : Type 0 where
@@ -42,12 +44,12 @@ first-passes : (b : Bool) (key : List ℕ) (rest : Option (List ℕ)) → (if b 
 first-passes false key rest e = (refl, e)
 first-passes true key rest e = absurd cc
 
-others-plain : (kept ms : Members) → refused_key ms ≡ None → ArePlain kept → ArePlain (with_others kept ms)
-others-plain kept no_members e p = p
-others-plain kept (member key d ms) e p =
-    let parts = first-passes (is_refused key d) key (refused_key ms) e in
-    others-plain (if is_among key served_flags || is_among key unserved_flags then kept else put key d kept) ms parts.1
-    (choose (is_among key served_flags || is_among key unserved_flags) key d kept (passes (is_among key served_flags) (is_among key unserved_flags) (is_among key reference_keys) (is_writable value_nesting d) (not (is_some (as_bool d))) (not (is_taken_back d)) parts.0) p)
+others-plain : (opened : List Opened) (kept ms : Members) → refused_key opened ms ≡ None → ArePlain kept → ArePlain (with_others kept ms)
+others-plain opened kept no_members e p = p
+others-plain opened kept (member key d ms) e p =
+    let parts = first-passes (is_refused opened key d) key (refused_key opened ms) e in
+    others-plain opened (if is_among key served_flags || is_among key unserved_flags then kept else put key d kept) ms parts.1
+    (choose (is_among key served_flags || is_among key unserved_flags) key d kept (passes (is_among key served_flags) (is_among key unserved_flags) (is_among key reference_keys) (is_writable value_nesting d) (not (is_some (as_bool d))) (not (is_said (is_offered opened key) d)) parts.0) p)
 
 fits-by : (float : Bool) (n : ℕ) → float ≡ false → n ≤ 99 → (not float && nat_le (suc n) 100) ≡ true
 fits-by true n f h = absurd (true≢false f)
@@ -57,8 +59,16 @@ some-if : (b : Bool) (ms : Members) → b ≡ true → (if b then Some (members_
 some-if true ms e = refl
 some-if false ms e = absurd (true≢false (sym e))
 
-pub others_can : (ms : Members) → refused_key ms ≡ None → more_of (object (with_others no_members ms)) ≡ Some (members_in (with_others no_members ms))
-others_can ms e =
-    let p = others-plain no_members ms e (record { no_float = refl; flat = omega arith }) in
-    let kept = with_others no_members ms in
+flag-plain : (on : Bool) (flag : List ℕ) (ms : Members) → ArePlain ms → ArePlain (if on then put flag (boolean true) ms else ms)
+flag-plain true flag ms p = put-plain flag (boolean true) ms refl p
+flag-plain false flag ms p = p
+
+flags-plain : (flags : List (List ℕ)) (opened : List Opened) (ms : Members) → ArePlain ms → ArePlain (with_flags flags opened ms)
+flags-plain [] opened ms p = p
+flags-plain (flag ∷ flags) opened ms p = flags-plain flags opened (with_flag_of opened flag ms) (flag-plain (is_offered opened flag) flag ms p)
+
+pub what_stands_beside_can : (opened : List Opened) (ms : Members) → refused_key opened ms ≡ None → more_of (object (beside_gates opened ms)) ≡ Some (members_in (beside_gates opened ms))
+what_stands_beside_can opened ms e =
+    let p = flags-plain (map (λ r. r.flag) further_rows) opened (with_others no_members ms) (others-plain opened no_members ms e (record { no_float = refl; flat = omega arith })) in
+    let kept = beside_gates opened ms in
     some-if (is_writable more_nesting (object kept)) kept (fits-by (members_have_float kept) (members_depth kept) p.no_float p.flat)

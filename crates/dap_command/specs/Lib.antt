@@ -1,5 +1,7 @@
 pub mod Command
 pub mod Capabilities
+pub mod Opening
+mod PrivateOpening
 pub mod Offer
 pub mod Objects
 pub mod GivenReferences

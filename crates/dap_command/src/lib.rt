@@ -14,6 +14,8 @@ mod given_references;
 mod key;
 mod objects;
 mod offer;
+mod opening;
+mod opening_list;
 mod source_key;
 
 pub use capabilities::Capabilities;
@@ -23,4 +25,5 @@ pub use given_references::{NumbersGiven, frames_given, holders_given};
 pub use key::Key;
 pub use objects::{GivenObjects, NamedObject};
 pub use offer::{Offer, OfferFault};
+pub use opening::{Opened, Opening, OpeningFault, is_openable};
 pub use source_key::SourceKey;

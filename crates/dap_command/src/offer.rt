@@ -1,14 +1,17 @@
 //! What an adapter offers, as who opens it says.
 //!
 //! Specification, "Capabilities" and "InitializeResponse".
-ghost use Rattle.std.specs.Prelude.{◌≡◌, IfOk, OnOk, IfSome, IfNone, None, Some, true, ◌||◌};
-ghost use Rattle.serde_json.specs.Data.{object, no_members};
+ghost use Rattle.std.specs.Prelude.{◌≡◌, IfOk, OnOk, IfSome, IfNone, None, Some, true, option_map, map};
+ghost use Rattle.serde_json.specs.Data.{no_members};
 ghost use Rattle.serde_json.specs.View.{view, members_view};
 ghost use Rattle.dap_json.specs.More.{members_in};
-ghost use Rattle.dap_command.specs.Offer.{is_among, served_flags, unserved_flags, reference_keys, is_refused, is_taken_back, refused_key, with_others};
+ghost use Rattle.dap_command.specs.Opening.{gated_by, is_offered, further_rows};
+ghost use Rattle.dap_command.specs.PrivateOpening.{gated_names};
+ghost use Rattle.dap_command.specs.Offer.{is_among, served_flags, unserved_flags, reference_keys, is_said, is_refused, refused_key, with_others, with_flag_of, with_flags, beside_gates};
 
 use crate::capabilities::{Capabilities, updated};
 use crate::command::Gate;
+use crate::opening::Opening;
 use dap_json::plain::is_plain;
 use dap_json::{MORE_NESTING, More, Text};
 use serde_json::{Map, Value, put};
@@ -24,7 +27,11 @@ pub struct Offer {
     pub set_variable: bool,
     pub step_back: bool,
     pub terminate: bool,
-    /// What stands beside these. A flag that gates a command, and what a reader would take for references, is left out.
+    /// Commands that whoever opens the adapter answers. The flags of those that are among the thirty are offered by this;
+    /// [`Offer::read_opening`] puts the others' in `more`.
+    pub opened: Opening,
+    /// What stands beside these. A flag of a command that is among the thirty, and what a reader would take for references, is
+    /// left out.
     pub more: More,
 }
 
@@ -86,6 +93,49 @@ fn is_unserved(key: &str) -> bool
     }
 }
 
+/// The commands that a flag gates.
+#[derive(Clone, Copy)]
+enum Gated {
+    One(&'static str),
+    Two(&'static str, &'static str),
+}
+
+/// What a flag gates, of the commands that are never served.
+fn gated_by(flag: &str) -> Option<Gated>
+    ensures { option_map gated_names result ≡ gated_by flag.now }
+{
+    match flag {
+        "supportsBreakpointLocationsRequest" => Some(Gated::One("breakpointLocations")),
+        "supportsCompletionsRequest" => Some(Gated::One("completions")),
+        "supportsExceptionInfoRequest" => Some(Gated::One("exceptionInfo")),
+        "supportsFunctionBreakpoints" => Some(Gated::One("setFunctionBreakpoints")),
+        "supportsModulesRequest" => Some(Gated::One("modules")),
+        "supportsRestartRequest" => Some(Gated::One("restart")),
+        "supportsDataBreakpoints" => Some(Gated::Two("dataBreakpointInfo", "setDataBreakpoints")),
+        "supportsDisassembleRequest" => Some(Gated::One("disassemble")),
+        "supportsGotoTargetsRequest" => Some(Gated::Two("gotoTargets", "goto")),
+        "supportsInstructionBreakpoints" => Some(Gated::One("setInstructionBreakpoints")),
+        "supportsReadMemoryRequest" => Some(Gated::One("readMemory")),
+        "supportsRestartFrame" => Some(Gated::One("restartFrame")),
+        "supportsSetExpression" => Some(Gated::One("setExpression")),
+        "supportsStepInTargetsRequest" => Some(Gated::One("stepInTargets")),
+        "supportsTerminateThreadsRequest" => Some(Gated::One("terminateThreads")),
+        "supportsWriteMemoryRequest" => Some(Gated::One("writeMemory")),
+        _ => None,
+    }
+}
+
+/// Whether a key is a flag of commands that are never served, each of which is opened.
+fn is_offered(key: &str, opened: &Opening) -> bool
+    ensures { result ≡ is_offered opened.now key.now }
+{
+    match gated_by(key) {
+        None => false,
+        Some(Gated::One(name)) => opened.contains(name),
+        Some(Gated::Two(first, second)) => opened.contains(first) && opened.contains(second),
+    }
+}
+
 fn names_references(key: &str) -> bool
     ensures { result ≡ is_among key.now reference_keys }
 {
@@ -98,26 +148,37 @@ fn names_references(key: &str) -> bool
     }
 }
 
+/// Whether a value is that truth value.
+fn is_said(said: bool, value: &Value) -> bool
+    ensures { result ≡ is_said said (view value.now) }
+{
+    if said {
+        value.as_bool().unwrap_or(false)
+    } else {
+        !value.as_bool().unwrap_or(true)
+    }
+}
+
 /// Whether what is at a key can't be offered.
-fn is_refused(key: &str, value: &Value) -> bool
-    ensures { result ≡ is_refused key.now (view value.now) }
+fn is_refused(key: &str, value: &Value, opened: &Opening) -> bool
+    ensures { result ≡ is_refused opened.now key.now (view value.now) }
 {
     if is_served(key) {
         return value.as_bool().is_none();
     }
     if is_unserved(key) {
-        return value.as_bool().unwrap_or(true);
+        return !is_said(is_offered(key, opened), value);
     }
     names_references(key) || !is_plain(value, MORE_NESTING - 1)
 }
 
 /// The first key that is refused.
-fn refused_key(map: &Map<String, Value>) -> Option<&str>
-    ensures key { IfSome result (λ key. refused_key (members_view map.now.entries) ≡ Some key.now) }
-    ensures none { IfNone result (refused_key (members_view map.now.entries) ≡ None) }
+fn refused_key<'a>(map: &'a Map<String, Value>, opened: &Opening) -> Option<&'a str>
+    ensures key { IfSome result (λ key. refused_key opened.now (members_view map.now.entries) ≡ Some key.now) }
+    ensures none { IfNone result (refused_key opened.now (members_view map.now.entries) ≡ None) }
 {
     for (key, value) in map.iter() {
-        if is_refused(key.as_str(), value) {
+        if is_refused(key.as_str(), value, opened) {
             return Some(key.as_str());
         }
     }
@@ -126,7 +187,6 @@ fn refused_key(map: &Map<String, Value>) -> Option<&str>
 
 /// The members but the flags of commands.
 fn others(alloc: Global, map: &Map<String, Value>) -> Result<Map<String, Value>, AllocError>
-    requires { refused_key (members_view map.now.entries) ≡ None }
     ensures { IfOk result (λ kept. members_view kept.entries ≡ with_others no_members (members_view map.now.entries)) }
 {
     let mut kept = Map::new(alloc);
@@ -138,12 +198,49 @@ fn others(alloc: Global, map: &Map<String, Value>) -> Result<Map<String, Value>,
     Ok(kept)
 }
 
-/// The same, to stand beside.
-fn more_in(alloc: Global, map: &Map<String, Value>) -> Result<More, AllocError>
-    requires { refused_key (members_view map.now.entries) ≡ None }
-    ensures { IfOk result (λ more. more ≡ members_in (with_others no_members (members_view map.now.entries))) }
+/// Puts a flag where it is offered.
+fn put_flag(
+    alloc: Global,
+    members: &mut Map<String, Value>,
+    opened: &Opening,
+    flag: &str,
+) -> Result<(), AllocError>
+    ensures { OnOk result (members_view members.new.entries ≡ with_flag_of opened.now flag.now (members_view members.old.entries)) }
 {
-    let kept = Value::Object(others(alloc, map)?);
+    if is_offered(flag, opened) {
+        put(members, alloc, flag, Value::Bool(true))?;
+    }
+    Ok(())
+}
+
+/// Puts the flags of the protocol's further commands.
+fn put_flags(
+    alloc: Global,
+    members: &mut Map<String, Value>,
+    opened: &Opening,
+) -> Result<(), AllocError>
+    ensures { OnOk result (members_view members.new.entries ≡ with_flags (map (λ r. r.flag) further_rows) opened.now (members_view members.old.entries)) }
+{
+    put_flag(alloc, members, opened, "supportsDataBreakpoints")?;
+    put_flag(alloc, members, opened, "supportsDisassembleRequest")?;
+    put_flag(alloc, members, opened, "supportsGotoTargetsRequest")?;
+    put_flag(alloc, members, opened, "supportsInstructionBreakpoints")?;
+    put_flag(alloc, members, opened, "supportsReadMemoryRequest")?;
+    put_flag(alloc, members, opened, "supportsRestartFrame")?;
+    put_flag(alloc, members, opened, "supportsSetExpression")?;
+    put_flag(alloc, members, opened, "supportsStepInTargetsRequest")?;
+    put_flag(alloc, members, opened, "supportsTerminateThreadsRequest")?;
+    put_flag(alloc, members, opened, "supportsWriteMemoryRequest")
+}
+
+/// What stands beside the flags that gate a command.
+fn more_in(alloc: Global, map: &Map<String, Value>, opened: &Opening) -> Result<More, AllocError>
+    requires { refused_key opened.now (members_view map.now.entries) ≡ None }
+    ensures { IfOk result (λ more. more ≡ members_in (beside_gates opened.now (members_view map.now.entries))) }
+{
+    let mut kept = others(alloc, map)?;
+    put_flags(alloc, &mut kept, opened)?;
+    let kept = Value::Object(kept);
     match More::of(alloc, &kept)? {
         Some(more) => Ok(more),
         None => unreachable!(),
@@ -153,7 +250,7 @@ fn more_in(alloc: Global, map: &Map<String, Value>) -> Result<More, AllocError>
 impl Offer {
     ghost use Rattle.std.specs.Prelude.{◌≡◌, ◌≢◌, IfOk, IfErr, Ok, Err};
     ghost use Rattle.serde_json.specs.View.{view};
-    ghost use Rattle.dap_command.specs.Offer.{usual_offer, gates_of, offer_in};
+    ghost use Rattle.dap_command.specs.Offer.{usual_offer, gates_of, offer_in, opened_offer_in};
     ghost use Rattle.dap_command.specs.declared.offer.OfferFault.{OfferFault};
 
     /// All that is served, and no more: what an adapter offers if nobody says otherwise.
@@ -167,24 +264,25 @@ impl Offer {
             set_variable: true,
             step_back: true,
             terminate: true,
+            opened: Opening::none(),
             more: More::none(),
         }
     }
 
-    /// The flags that gate a command. Those of commands that are never served are `false`.
+    /// The flags that gate a command. Those of commands that are never served are `true` where these are opened.
     pub fn gates(&self) -> Capabilities
         ensures { result ≡ gates_of self.now }
     {
         Capabilities {
-            breakpoint_locations: false,
+            breakpoint_locations: self.opened.contains("breakpointLocations"),
             cancel: self.cancel,
-            completions: false,
+            completions: self.opened.contains("completions"),
             configuration_done: self.configuration_done,
-            exception_info: false,
-            function_breakpoints: false,
+            exception_info: self.opened.contains("exceptionInfo"),
+            function_breakpoints: self.opened.contains("setFunctionBreakpoints"),
             loaded_sources: self.loaded_sources,
-            modules: false,
-            restart: false,
+            modules: self.opened.contains("modules"),
+            restart: self.opened.contains("restart"),
             set_variable: self.set_variable,
             step_back: self.step_back,
             terminate: self.terminate,
@@ -202,13 +300,25 @@ impl Offer {
         ensures offer { IfOk result (λ offer. offer_in (view value.now) ≡ Ok offer) }
         ensures fault { IfErr result (λ fault. fault ≢ OfferFault.OutOfMemory → offer_in (view value.now) ≡ Err fault) }
     {
+        Offer::read_opening(alloc, value, Opening::none())
+    }
+
+    /// The same, with commands that whoever opens the adapter answers. A flag of theirs is offered, whether it is said or not:
+    /// that of two commands (`supportsGotoTargetsRequest`, `supportsDataBreakpoints`) where both are opened.
+    ///
+    /// # Errors
+    /// As [`Offer::read`], but a flag of commands that are all opened has to be `true` where it is there.
+    pub fn read_opening(alloc: Global, value: &Value, opened: Opening) -> Result<Offer, OfferFault>
+        ensures offer { IfOk result (λ offer. opened_offer_in opened (view value.now) ≡ Ok offer) }
+        ensures fault { IfErr result (λ fault. fault ≢ OfferFault.OutOfMemory → opened_offer_in opened (view value.now) ≡ Err fault) }
+    {
         let Value::Object(map) = value else {
             return Err(OfferFault::NotObject);
         };
-        if let Some(key) = refused_key(map) {
+        if let Some(key) = refused_key(map, &opened) {
             return Err(OfferFault::BadKey(Text::copied(alloc, key)?));
         }
-        let more = more_in(alloc, map)?;
+        let more = more_in(alloc, map, &opened)?;
         Ok(Offer {
             cancel: updated(value, Gate::Cancel, true),
             configuration_done: updated(value, Gate::ConfigurationDone, true),
@@ -216,6 +326,7 @@ impl Offer {
             set_variable: updated(value, Gate::SetVariable, true),
             step_back: updated(value, Gate::StepBack, true),
             terminate: updated(value, Gate::Terminate, true),
+            opened,
             more,
         })
     }
@@ -235,6 +346,7 @@ impl Clone for Offer {
             set_variable: self.set_variable,
             step_back: self.step_back,
             terminate: self.terminate,
+            opened: self.opened.clone()?,
             more: self.more.clone()?,
         })
     }

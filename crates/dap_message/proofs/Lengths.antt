@@ -5,7 +5,7 @@ use Rattle.std.proofs.lemmas.Fmt.{length-decimal-le}
 use Rattle.std.specs.Fmt.{digits}
 use Rattle.json.specs.Token as token
 use Rattle.json.specs.Print.{escape_byte, quoted, token_text}
-use Rattle.serde_json.specs.Data.{Data, boolean, object, Members, no_members}
+use Rattle.serde_json.specs.Data.{Data, object}
 use Rattle.serde_json.specs.Find.{of_integer}
 use Rattle.serde_json.specs.Written.{number_text}
 use Rattle.dap_json.specs.Field.{max_seq}

@@ -13,7 +13,7 @@ use Rattle.dap_body.specs.declared.failure.Failure.{Failure}
 use Rattle.dap_body.specs.declared.failure.Failure.TheVariants.{NotInitialized, AlreadyInitialized, UnknownCommand, Unsupported, BadArguments, WrongPhase, NotStopped, UnknownThread, StaleReference, UnknownSource, Debuggee, TooManyBreakpoints, TooManyReferences, ReferencesExhausted, TooLarge, Busy, Cancelled, TerminalRefused}
 use Rattle.dap_envelope.specs.Canon.{canon}
 use Rattle.dap_envelope.specs.Laws.{WrittenIsReadAgain}
-use Rattle.dap_message.specs.MessageParts.{request_message, failure_response, explained_response, success_response, event_message}
+use Rattle.dap_message.specs.MessageParts.{request_message, failure_response, explained_response, success_response, worded_response, event_message}
 use Rattle.dap_envelope.specs.Meaning.{Msg}
 use Rattle.dap_envelope.specs.Refusals.{max_command}
 use Rattle.dap_envelope.specs.SoundMessage.{IsSoundTree}
@@ -66,6 +66,11 @@ module _ (again : WrittenIsReadAgain) where
       → seq ≤ max_seq → request_seq ≤ max_seq → length command ≤ max_command → Msg (canon (success_response seq request_seq command body)) (success_response seq request_seq command body)
   succeeded-back seq r command body p u s q a l =
       again (success_response seq r command body) (rw (within seq max_seq q, within r max_seq a, within (length command) max_command l) p) (record { texts = (u, tt); tree = s })
+
+  pub worded-back : (seq request_seq : ℕ) (command message : List ℕ) (body : Option Data) → IsTrue (is_plain_tree body) → IsUtf8 command → IsUtf8 message → IsSoundTree body
+      → seq ≤ max_seq → request_seq ≤ max_seq → length command ≤ max_command → Msg (canon (worded_response seq request_seq command message body)) (worded_response seq request_seq command message body)
+  worded-back seq r command message body p u n s q a l =
+      again (worded_response seq r command message body) (rw (within seq max_seq q, within r max_seq a, within (length command) max_command l) p) (record { texts = (u, n); tree = s })
 
   pub failed-back : (seq request_seq : ℕ) (command : List ℕ) (failure : Failure) → IsUtf8 command → IsUtf8 (row_of failure).name → IsSoundTree (Some (failure_body failure))
       → seq ≤ max_seq → request_seq ≤ max_seq → length command ≤ max_command → Msg (canon (failure_response seq request_seq command failure)) (failure_response seq request_seq command failure)

@@ -10,7 +10,8 @@ use Rattle.dap_envelope.specs.Canon.{canon}
 use Rattle.dap_envelope.specs.Meaning.{Msg}
 use Rattle.dap_envelope.specs.Refusals.{max_command}
 use Rattle.dap_envelope.specs.declared.message.Message.{Message}
-use Rattle.dap_message.specs.MessageParts.{request_message, failure_response, explained_response, success_response, event_message}
+use Rattle.dap_message.specs.MessageParts.{request_message, failure_response, explained_response, success_response, outcome_response, event_message}
+use Rattle.dap_message.specs.declared.outcome.Outcome.{Outcome}
 
 -- the canonical text of a message is behind what was there
 abbrev pub AddsText : {A : Type 0} → Message → Vec ℕ A → Vec ℕ A → Type 0
@@ -24,6 +25,10 @@ AddsExplained seq request_seq command show_user why old new = AddsText (explaine
 
 abbrev pub AddsAnswer : {A : Type 0} → ℕ → ℕ → List ℕ → Option Body → Vec ℕ A → Vec ℕ A → Type 0
 AddsAnswer seq request_seq command body old new = AddsText (success_response seq request_seq command (data_in body)) old new
+
+-- a response as whoever holds the adapter says it
+abbrev pub AddsOutcome : {A : Type 0} → ℕ → ℕ → List ℕ → Outcome → Vec ℕ A → Vec ℕ A → Type 0
+AddsOutcome seq request_seq command outcome old new = AddsText (outcome_response seq request_seq command outcome) old new
 
 abbrev pub AddsEvent : {A : Type 0} → ℕ → List ℕ → Option EventBody → Vec ℕ A → Vec ℕ A → Type 0
 AddsEvent seq event body old new = AddsText (event_message seq event (event_data_in body)) old new
@@ -51,6 +56,10 @@ ExplainedReadsBack seq request_seq command show_user why =
 abbrev pub AnswerReadsBack : ℕ → ℕ → List ℕ → Option Body → Type 0
 AnswerReadsBack seq request_seq command body =
     seq ≤ max_seq → request_seq ≤ max_seq → length command ≤ max_command → CanonIsRead (success_response seq request_seq command (data_in body))
+
+abbrev pub OutcomeReadsBack : ℕ → ℕ → List ℕ → Outcome → Type 0
+OutcomeReadsBack seq request_seq command outcome =
+    seq ≤ max_seq → request_seq ≤ max_seq → length command ≤ max_command → CanonIsRead (outcome_response seq request_seq command outcome)
 
 abbrev pub EventReadsBack : ℕ → List ℕ → Option EventBody → Type 0
 EventReadsBack seq event body = seq ≤ max_seq → CanonIsRead (event_message seq event (event_data_in body))

@@ -12,6 +12,9 @@ use Rattle.dap_body.specs.declared.failure.Failure.{Failure}
 use Rattle.dap_body.specs.declared.failure.Failure.TheVariants.{Debuggee}
 use Rattle.dap_envelope.specs.declared.message.Message.{Message}
 use Rattle.dap_envelope.specs.declared.message.Kind.TheVariants.{Request, Response, Event}
+use Rattle.dap_message.specs.declared.outcome.Outcome.{Outcome}
+use Rattle.dap_message.specs.declared.outcome.Outcome.TheVariants as outcome
+use Rattle.dap_json.specs.Writable.{is_plain_tree}
 
 -- ---- the kinds
 
@@ -28,6 +31,19 @@ explained_response seq request_seq command show_user why =
 
 abbrev pub success_response : ℕ → ℕ → List ℕ → Option Data → Message
 success_response seq request_seq command body = record { seq = seq; kind = Response request_seq true command None body }
+
+-- a failure with a message and a body of its own
+abbrev pub worded_response : ℕ → ℕ → List ℕ → List ℕ → Option Data → Message
+worded_response seq request_seq command message body = record { seq = seq; kind = Response request_seq false command (Some message) body }
+
+-- as whoever holds the adapter says how a request came out
+abbrev pub outcome_response : ℕ → ℕ → List ℕ → Outcome → Message
+outcome_response seq request_seq command (outcome.Success body) = success_response seq request_seq command body
+outcome_response seq request_seq command (outcome.Failure message body) = worded_response seq request_seq command message body
+
+abbrev pub is_plain_outcome : Outcome → Bool
+is_plain_outcome (outcome.Success body) = is_plain_tree body
+is_plain_outcome (outcome.Failure message body) = is_plain_tree body
 
 abbrev pub event_message : ℕ → List ℕ → Option Data → Message
 event_message seq event body = record { seq = seq; kind = Event event body }

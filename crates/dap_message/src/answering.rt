@@ -13,8 +13,11 @@ ghost use Rattle.dap_body.specs.Failure.{explained_body, failure_body};
 ghost use Rattle.dap_message.specs.PrivateAnswering.{with_body, with_arguments, end_members, response_end};
 ghost use Rattle.dap_envelope.specs.Canon.{canon, request_members, event_members, response_members};
 ghost use Rattle.dap_envelope.specs.SoundMessage.{IsSoundTree};
-ghost use Rattle.dap_message.specs.Appending.{AddsFailure, AddsExplained, AddsAnswer, AddsEvent, AddsNamedEvent, AddsRequest, FailureReadsBack, ExplainedReadsBack, AnswerReadsBack, EventReadsBack, NamedEventReadsBack, RequestReadsBack};
+ghost use Rattle.dap_message.specs.MessageParts.{is_plain_outcome};
+ghost use Rattle.dap_message.specs.declared.outcome.Outcome.TheVariants as came;
+ghost use Rattle.dap_message.specs.Appending.{AddsFailure, AddsExplained, AddsAnswer, AddsOutcome, AddsEvent, AddsNamedEvent, AddsRequest, FailureReadsBack, ExplainedReadsBack, AnswerReadsBack, OutcomeReadsBack, EventReadsBack, NamedEventReadsBack, RequestReadsBack};
 
+use crate::outcome::Outcome;
 use dap_body::{
     Body, EventBody, Failure, append_body, append_event_body, append_explained_body,
     append_failure_body,
@@ -405,6 +408,90 @@ pub fn append_answer(
         command,
     };
     close(alloc, out, start, opened, end)
+}
+
+/// The same of a success whose body is a tree.
+fn append_success(
+    alloc: Global,
+    out: &mut Vec<u8>,
+    seq: u64,
+    request_seq: u64,
+    command: &str,
+    body: &Option<Tree>,
+) -> Result<(), AllocError>
+    requires { IsTrue (is_plain_tree body.now) }
+    ensures canon { OnOk result (AddsOutcome seq request_seq command.now (came.Success body.now) out.old out.new) }
+    ensures reads_back { OnOk result (OutcomeReadsBack seq request_seq command.now (came.Success body.now)) }
+    ensures err { OnErr result (out.new.items ≡ out.old.items) }
+{
+    // A law for the proof: what is written is read again.
+    written_is_read_again();
+    let start = out.len();
+    let opened = open_tree(alloc, out, body);
+    let end = End::Success {
+        seq,
+        request_seq,
+        command,
+    };
+    close(alloc, out, start, opened, end)
+}
+
+/// The same of a failure whose body is a tree.
+fn append_worded(
+    alloc: Global,
+    out: &mut Vec<u8>,
+    seq: u64,
+    request_seq: u64,
+    command: &str,
+    name: &str,
+    body: &Option<Tree>,
+) -> Result<(), AllocError>
+    requires { IsTrue (is_plain_tree body.now) }
+    ensures canon { OnOk result (AddsOutcome seq request_seq command.now (came.Failure name.now body.now) out.old out.new) }
+    ensures reads_back { OnOk result (OutcomeReadsBack seq request_seq command.now (came.Failure name.now body.now)) }
+    ensures err { OnErr result (out.new.items ≡ out.old.items) }
+{
+    // A law for the proof: what is written is read again.
+    written_is_read_again();
+    let start = out.len();
+    let opened = open_tree(alloc, out, body);
+    let end = End::Failure {
+        seq,
+        request_seq,
+        command,
+        name,
+    };
+    close(alloc, out, start, opened, end)
+}
+
+/// Appends the text of the response to a request that came out so.
+pub fn append_outcome(
+    alloc: Global,
+    out: &mut Vec<u8>,
+    seq: u64,
+    request_seq: u64,
+    command: &str,
+    outcome: &Outcome,
+) -> Result<(), AllocError>
+    requires { IsTrue (is_plain_outcome outcome.now) }
+    ensures canon { OnOk result (AddsOutcome seq request_seq command.now outcome.now out.old out.new) }
+    ensures reads_back { OnOk result (OutcomeReadsBack seq request_seq command.now outcome.now) }
+    ensures err { OnErr result (out.new.items ≡ out.old.items) }
+{
+    match outcome {
+        Outcome::Success(body) => append_success(alloc, out, seq, request_seq, command, body),
+        Outcome::Failure { message, body } => {
+            append_worded(
+                alloc,
+                out,
+                seq,
+                request_seq,
+                command,
+                message.as_str(),
+                body,
+            )
+        }
+    }
 }
 
 /// Appends the text of an event.

@@ -10,10 +10,11 @@
 mod answering;
 pub mod laws;
 mod offers;
+mod outcome;
 
 pub use answering::{
     append_answer, append_event, append_explained, append_failure, append_named_event,
-    append_request,
+    append_outcome, append_request,
 };
 pub use dap_body::{
     Body, Breakpoint, EventBody, Failure, Scope, Source, StackFrame, Thread, Variable,
@@ -35,3 +36,4 @@ pub use dap_envelope::{
 pub use dap_json::object_reader::Scratch;
 pub use dap_json::{List, Text, Tree};
 pub use offers::{body_of_offer, offer_fits};
+pub use outcome::{Outcome, is_plain_outcome};

@@ -2,3 +2,4 @@ pub mod Outboxes
 pub mod SeveralAnswers
 pub mod Explanations
 mod ExplanationExamples
+pub mod WaitingLemmas

@@ -2,7 +2,6 @@
 use Rattle.std.proofs.Common.{◌≡◌, ℕ, ◌+◌, ◌<◌, ◌≤◌, List, [], ◌∷◌, ◌++◌, true, false, Option, Some, None, length, take, drop, decimal, refl, sym, ap, ◌∙◌, subst, append_assoc, arith, length-append}
 use Rattle.std.specs.List.{AllByRecursion}
 use Rattle.std.proofs.Math.Seq.{take-append_seam, drop-append_seam}
-use Rattle.std.proofs.lemmas.Bool.{le-leb}
 use Rattle.std.proofs.lemmas.List.{append-nil, drop-append-le}
 use Rattle.dap_json.specs.Field.{max_seq}
 use Rattle.dap_frame.specs.Written.{frame_of}
@@ -14,8 +13,8 @@ use Rattle.std.proofs.lemmas.Fmt.{length-decimal-le}
 use Rattle.dap_envelope.specs.Canon.{canon, tree_of, members_of, request_members}
 use Rattle.dap_call.specs.Terminal.{run_in_terminal, terminal_members}
 use Rattle.dap_message.proofs.Sizes.{length-compact_text}
-use Rattle.dap_message.specs.MessageParts.{failure_response, success_response, has_fixed_shape, AdapterEvent, output, stopped, event_name, without_more}
-use Rattle.dap_message.specs.Lengths.{max_fixed, FailuresAreShort, FixedResponsesAreShort, EventsAreShort, IsWithin, event_fits, event_within}
+use Rattle.dap_message.specs.MessageParts.{failure_response, success_response, has_fixed_shape, AdapterEvent, output, stopped, without_more}
+use Rattle.dap_message.specs.Lengths.{max_fixed, FailuresAreShort, FixedResponsesAreShort, event_fits, event_within}
 use Rattle.dap_envelope.specs.Meaning.{Msg}
 use Rattle.dap_envelope.specs.ReadBack.{ReadsBack, AllReadBack}
 use Rattle.dap_envelope.specs.Refusals.{max_command}

@@ -8,7 +8,8 @@ use Rattle.dap_envelope.specs.Canon.{canon}
 use Rattle.dap_history.specs.History.{Entry, Asked, Out}
 use Rattle.dap_tables.specs.declared.target.Target.{Target}
 use Rattle.dap_debuggee.specs.declared.explanation.Explanation.{Explanation}
-use Rattle.dap_message.specs.MessageParts.{AdapterEvent, event_name, event_body, success_response, failure_response, explained_response, event_message}
+use Rattle.dap_message.specs.MessageParts.{AdapterEvent, event_name, event_body, success_response, failure_response, explained_response, outcome_response, event_message}
+use Rattle.dap_message.specs.declared.outcome.Outcome.{Outcome}
 use Rattle.dap_body.specs.declared.failure.Failure.{Failure}
 use Rattle.dap_body.specs.declared.failure.Failure.TheVariants.{Debuggee}
 use Rattle.dap_call.specs.declared.terminal.TerminalCall.{TerminalCall}
@@ -23,6 +24,8 @@ pub data Answer : Type 0 where
   failure : Failure → Answer
   -- the failure `debuggee`, with why the debuggee refused
   explained : Explanation → Answer
+  -- as whoever holds the adapter says
+  came_out : Outcome → Answer
 
 -- what is to be written, before it has its number
 pub data Draft : Type 0 where
@@ -35,11 +38,12 @@ pub data Draft : Type 0 where
 abbrev pub plain_success : Answer
 plain_success = success None []
 
--- which failure it is, with or without a reason
+-- which failure of the profile it is, with or without a reason
 abbrev pub failure_in : Answer → Option Failure
 failure_in (success body names) = None
 failure_in (failure f) = Some f
 failure_in (explained e) = Some Debuggee
+failure_in (came_out o) = None
 
 -- ---- the own request
 
@@ -57,6 +61,7 @@ abbrev pub answer_message : ℕ → Request → Answer → Message
 answer_message seq r (success body names) = success_response seq r.seq r.command body
 answer_message seq r (failure f) = failure_response seq r.seq r.command f
 answer_message seq r (explained e) = explained_response seq r.seq r.command e.show_user e.text
+answer_message seq r (came_out o) = outcome_response seq r.seq r.command o
 
 abbrev pub message_of : ℕ → Draft → Message
 message_of seq (reply r answer) = answer_message seq r answer
@@ -67,6 +72,7 @@ abbrev pub names_in : Answer → List Target
 names_in (success body names) = names
 names_in (failure f) = []
 names_in (explained e) = []
+names_in (came_out o) = []
 
 abbrev pub names_of : Draft → List Target
 names_of (reply r answer) = names_in answer

@@ -1,3 +1,4 @@
+pub mod Waiting
 pub mod Draft
 pub mod InRange
 pub mod Outbox

@@ -2,7 +2,8 @@
 use Rattle.std.specs.Prelude.{◌≡◌, ℕ, ◌+◌, ◌≤◌, List, [], ◌∷◌, ◌++◌, length, take, drop, nat_le, Bool, IsTrue, Option, Some, None}
 use Rattle.serde_json.specs.Data.{Data}
 use Rattle.dap_json.specs.Field.{max_seq}
-use Rattle.dap_message.specs.MessageParts.{AdapterEvent, initialized, output, stopped, continued, exited, terminated, named, success_response, explained_response}
+use Rattle.dap_message.specs.MessageParts.{AdapterEvent, initialized, output, stopped, continued, exited, terminated, named, success_response, explained_response, outcome_response}
+use Rattle.dap_message.specs.declared.outcome.Outcome.{Outcome}
 use Rattle.dap_body.specs.Body.{data_in}
 use Rattle.dap_message.specs.Lengths.{max_fixed, event_within}
 use Rattle.dap_envelope.specs.Canon.{canon}
@@ -20,7 +21,7 @@ use Rattle.dap_outbox.specs.declared.answer.Fixed.TheVariants.{Continue}
 use Rattle.dap_outbox.specs.declared.answer.Event.{Event}
 use Rattle.dap_outbox.specs.declared.answer.Event.TheVariants.{Initialized, Output, Stopped, Continued, Exited, Terminated}
 use Rattle.dap_outbox.specs.InRange.{AnswersInRange, IsRequestInRange}
-use Rattle.dap_outbox.specs.Draft.{Answer as AnswerWord, success, failure, explained, Draft, reply, emit, numbered_messages, bytes_of}
+use Rattle.dap_outbox.specs.Draft.{Answer as AnswerWord, success, failure, explained, came_out, Draft, reply, emit, numbered_messages, bytes_of}
 
 -- what the buffer had before, the bytes of the messages behind it, and the own numbers that are left after them
 pub record OutboxState : Type 0 where
@@ -115,3 +116,11 @@ explanation_fits most old request e = explanation_fits_as (old.numbers.used + 1)
 
 abbrev pub ExplainsIfFits : ℕ → OutboxState → OutboxState → Request → Explanation → Bool → Type 0
 ExplainsIfFits most old new request e fits = IsTrue fits → AppendsDraft most old new (reply request (explained e))
+
+-- whether the response to a request that came out so, with this own number, has at most so many bytes
+abbrev pub outcome_fits : ℕ → ℕ → Request → Outcome → Bool
+outcome_fits most seq request o = nat_le (length (canon (outcome_response seq request.seq request.command o))) most
+
+-- if it has, the request is answered so
+abbrev pub RespondsIfFits : ℕ → OutboxState → OutboxState → Request → Outcome → Bool → Type 0
+RespondsIfFits most old new request o fits = IsTrue fits → AppendsDraft most old new (reply request (came_out o))

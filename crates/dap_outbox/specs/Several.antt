@@ -2,29 +2,30 @@
 use Rattle.std.specs.Prelude.{◌≡◌, ℕ, ◌==◌, not, Bool, IsTrue, ◌+◌, ◌≤◌, List, ◌++◌, length, filter, map, Option, Some, None}
 use Rattle.std.specs.List.{list_all}
 use Rattle.dap_body.specs.declared.failure.Failure.{Failure}
-use Rattle.dap_tables.specs.Outstanding.{Kept, entries, is_parked}
+use Rattle.dap_tables.specs.Outstanding.{Kept, entries}
 use Rattle.dap_tables.specs.declared.entry.Entry.{Entry}
 use Rattle.dap_outbox.specs.declared.several.Chosen.{Chosen}
-use Rattle.dap_outbox.specs.declared.several.Chosen.TheVariants.{AllBut, Parked}
+use Rattle.dap_outbox.specs.declared.several.Chosen.TheVariants.{AllBut, Starting}
 use Rattle.dap_debuggee.specs.declared.explanation.Explanation.{Explanation}
+use Rattle.dap_outbox.specs.Waiting.{is_starting_in}
 use Rattle.dap_outbox.specs.Draft.{Answer, Draft, reply, failure, explained, plain_success}
 use Rattle.dap_outbox.specs.Outbox.{OutboxState, Holds, explanation_fits_as}
 
-abbrev pub is_chosen : Chosen → List Kept → ℕ → Bool
-is_chosen (AllBut one) kept seq = not (seq == one)
-is_chosen Parked kept seq = is_parked seq kept
+abbrev pub is_chosen : Chosen → List Kept → Entry → Bool
+is_chosen (AllBut one) kept r = not (r.seq == one)
+is_chosen Starting kept r = is_starting_in kept r
 
 abbrev pub answer_by : Option Failure → Answer
 answer_by None = plain_success
 answer_by (Some f) = failure f
 
--- the same answer to each request whose number passes
-abbrev pub answer_where : (ℕ → Bool) → Answer → List Entry → List Draft
-answer_where passes answer requests = map (λ r. reply r answer) (filter (λ r. passes r.seq) requests)
+-- the same answer to each request that passes
+abbrev pub answer_where : (Entry → Bool) → Answer → List Entry → List Draft
+answer_where passes answer requests = map (λ r. reply r answer) (filter passes requests)
 
 -- an own number is left for the answer to each request that is chosen of those that are kept
 abbrev pub HasNumbersFor : OutboxState → Chosen → List Kept → Type 0
-HasNumbersFor outbox which kept = outbox.numbers.used + length (filter (λ r. is_chosen which kept r.seq) (entries kept)) ≤ outbox.numbers.last
+HasNumbersFor outbox which kept = outbox.numbers.used + length (filter (λ r. is_chosen which kept r) (entries kept)) ≤ outbox.numbers.last
 
 -- these messages more
 pub record WritesAll (old new : OutboxState) (ds : List Draft) : Type 0 where
@@ -38,7 +39,7 @@ pub record WritesWithin (most : ℕ) (old new : OutboxState) (ds : List Draft) :
 
 -- each request that is chosen is answered so, by arrival
 abbrev pub AnswersChosen : OutboxState → OutboxState → Chosen → Option Failure → List Kept → Type 0
-AnswersChosen old new which fault kept = WritesAll old new (answer_where (λ seq. is_chosen which kept seq) (answer_by fault) (entries kept))
+AnswersChosen old new which fault kept = WritesAll old new (answer_where (λ r. is_chosen which kept r) (answer_by fault) (entries kept))
 
 -- ---- with why the debuggee refused
 
@@ -48,9 +49,9 @@ explanations_fit seq most told requests = list_all (λ r. explanation_fits_as se
 
 -- those that are chosen
 abbrev pub chosen_of : Chosen → List Kept → List Entry → List Entry
-chosen_of which kept requests = filter (λ r. is_chosen which kept r.seq) requests
+chosen_of which kept requests = filter (λ r. is_chosen which kept r) requests
 
 -- if it does, each request that is chosen is answered with why, by arrival
 abbrev pub ExplainsChosen : ℕ → OutboxState → OutboxState → Chosen → Explanation → List Kept → Bool → Type 0
 ExplainsChosen most old new which told kept fits =
-    IsTrue fits → WritesWithin most old new (answer_where (λ seq. is_chosen which kept seq) (explained told) (entries kept))
+    IsTrue fits → WritesWithin most old new (answer_where (λ r. is_chosen which kept r) (explained told) (entries kept))

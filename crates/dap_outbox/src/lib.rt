@@ -9,7 +9,11 @@ mod answer;
 mod outbox;
 mod several;
 mod texts;
+mod waiting;
 
 pub use answer::{Answer, Event, Fixed};
 pub use outbox::Outbox;
 pub use several::{Chosen, answer_chosen, explain_chosen};
+pub use waiting::{
+    Lent, clear_starting, is_lent, is_starting_in, lent_count, lent_in_order, starting_count,
+};

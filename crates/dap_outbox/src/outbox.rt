@@ -1,20 +1,22 @@
 //! A buffer that is lent, with messages of a step behind what it had before.
 ghost use Rattle.std.specs.Prelude.{◌≡◌, ◌+◌, ◌<◌, ◌≤◌, ◌++◌, length, IfOk, OnOk, OnErr, IsTrue, false};
 ghost use Rattle.dap_outbox.specs.Draft.{ask};
-ghost use Rattle.dap_outbox.specs.Outbox.{event_of, IsReady, AppendsDraft, HoldsNone, AppendsReply, AppendsEvent, EmitsIfFits, EmitsNamedIfFits, answer_fits, AnswersIfFits, explanation_fits, explanation_fits_as, ExplainsIfFits, AppendsAnswer};
+ghost use Rattle.dap_outbox.specs.Outbox.{event_of, IsReady, AppendsDraft, HoldsNone, AppendsReply, AppendsEvent, EmitsIfFits, EmitsNamedIfFits, answer_fits, AnswersIfFits, explanation_fits, explanation_fits_as, ExplainsIfFits, outcome_fits, RespondsIfFits, AppendsAnswer};
 ghost use Rattle.dap_json.specs.Field.{max_seq};
 ghost use Rattle.dap_json.specs.Writable.{is_plain_tree};
 ghost use Rattle.dap_message.specs.Lengths.{max_fixed, IsWithin, event_fits};
-ghost use Rattle.dap_message.specs.MessageParts.{named};
+ghost use Rattle.dap_message.specs.MessageParts.{is_plain_outcome, named};
 
 use crate::answer::{Answer, Event};
-use crate::texts::{append_named, append_reply, append_terminal, append_told, append_why};
+use crate::texts::{
+    append_named, append_reply, append_response, append_terminal, append_told, append_why,
+};
 use dap_body::Body;
 use dap_debuggee::Explanation;
 use dap_frame::frame_from;
 use dap_json::Tree;
-use dap_message::append_answer;
 use dap_message::laws::fixed_messages_are_short;
+use dap_message::{Outcome, append_answer};
 use dap_tables::{Entry, Seq};
 use std::alloc::{AllocError, Global};
 use std::marker::Model;
@@ -295,6 +297,54 @@ impl Outbox {
         let (seq, numbers) = self.next();
         let end = self.buffer.len();
         append_named(alloc, &mut self.buffer, seq, event, body)?;
+        if self.buffer.len() - end > most {
+            self.buffer.truncate(end);
+            return Ok(false);
+        }
+        frame_from(&mut self.buffer, end)?;
+        self.numbers = numbers;
+        Ok(true)
+    }
+
+    /// Whether the response to a request that came out so, with the own number `seq`, has at most so many bytes. Nothing is written.
+    pub fn can_respond(
+        &mut self,
+        alloc: Global,
+        request: &Entry,
+        outcome: &Outcome,
+        seq: u64,
+        most: usize,
+    ) -> Result<bool, AllocError>
+        requires plain { IsTrue (is_plain_outcome outcome.now) }
+        ensures fits { IfOk result (λ ok. ok ≡ outcome_fits most seq request.now outcome.now) }
+        ensures same { self.new ≡ self.old }
+    {
+        let end = self.buffer.len();
+        append_response(alloc, &mut self.buffer, seq, request, outcome)?;
+        let length = self.buffer.len() - end;
+        self.buffer.truncate(end);
+        Ok(length <= most)
+    }
+
+    /// Answers a request as it came out, unless the message is longer than so many bytes: whether it was answered.
+    pub fn respond(
+        &mut self,
+        alloc: Global,
+        request: &Entry,
+        outcome: &Outcome,
+        most: usize,
+    ) -> Result<bool, AllocError>
+        requires left { self.old.numbers.used < self.old.numbers.last }
+        requires plain { IsTrue (is_plain_outcome outcome.now) }
+        ensures fits { IfOk result (λ ok. ok ≡ outcome_fits most (self.old.numbers.used + 1) request.now outcome.now) }
+        ensures writes { IfOk result (RespondsIfFits most self.old self.new request.now outcome.now) }
+        ensures before { self.new.before ≡ self.old.before }
+        ensures too_long { IfOk result (λ ok. ok ≡ false → self.new ≡ self.old) }
+        ensures err { OnErr result (self.new ≡ self.old) }
+    {
+        let (seq, numbers) = self.next();
+        let end = self.buffer.len();
+        append_response(alloc, &mut self.buffer, seq, request, outcome)?;
         if self.buffer.len() - end > most {
             self.buffer.truncate(end);
             return Ok(false);

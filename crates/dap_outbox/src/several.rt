@@ -8,6 +8,7 @@ ghost use Rattle.dap_tables.specs.Outstanding.{entries};
 
 use crate::answer::Answer;
 use crate::outbox::Outbox;
+use crate::waiting::is_starting_in;
 use dap_body::Failure;
 use dap_debuggee::Explanation;
 use dap_tables::{Entry, InOrder, Outstanding};
@@ -18,16 +19,16 @@ use std::alloc::{AllocError, Global};
 pub enum Chosen {
     /// All but the one with this number.
     AllBut(u64),
-    /// Those that are parked.
-    Parked,
+    /// Those that wait for the debuggee to start.
+    Starting,
 }
 
-fn is_chosen(kept: &Outstanding, which: Chosen, seq: u64) -> bool
-    ensures { result ≡ is_chosen which kept.now.kept seq }
+fn is_chosen(kept: &Outstanding, which: Chosen, request: &Entry) -> bool
+    ensures { result ≡ is_chosen which kept.now.kept request.now }
 {
     match which {
-        Chosen::AllBut(one) => seq != one,
-        Chosen::Parked => kept.is_parked(seq),
+        Chosen::AllBut(one) => request.seq != one,
+        Chosen::Starting => is_starting_in(kept, request),
     }
 }
 
@@ -50,12 +51,12 @@ fn answer_rest(
     which: Chosen,
     failure: Option<Failure>,
 ) -> Result<(), AllocError>
-    requires { outbox.old.numbers.used + length (filter (λ r. is_chosen which kept.now.kept r.seq) requests) ≤ outbox.old.numbers.last }
-    ensures writes { OnOk result (WritesAll outbox.old outbox.new (answer_where (λ seq. is_chosen which kept.now.kept seq) (answer_by failure) requests.entry)) }
+    requires { outbox.old.numbers.used + length (filter (λ r. is_chosen which kept.now.kept r) requests) ≤ outbox.old.numbers.last }
+    ensures writes { OnOk result (WritesAll outbox.old outbox.new (answer_where (λ r. is_chosen which kept.now.kept r) (answer_by failure) requests.entry)) }
     ensures before { outbox.new.before ≡ outbox.old.before }
 {
     while let Some(request) = requests.next() {
-        if is_chosen(kept, which, request.seq) {
+        if is_chosen(kept, which, request) {
             outbox.reply(alloc, request, answer_by(failure))?;
         }
     }
@@ -94,7 +95,7 @@ fn can_explain_rest(
     ensures same { outbox.new ≡ outbox.old }
 {
     while let Some(request) = requests.next() {
-        if is_chosen(kept, which, request.seq) {
+        if is_chosen(kept, which, request) {
             if !outbox.can_explain(alloc, request, told, last, most)? {
                 return Ok(false);
             }
@@ -140,11 +141,11 @@ fn explain_rest(
     requires last { outbox.old.numbers.last ≤ last }
     requires small { last ≤ max_seq }
     requires fits { IsTrue (explanations_fit last most told.now (chosen_of which kept.now.kept requests)) }
-    ensures writes { OnOk result (WritesWithin most outbox.old outbox.new (answer_where (λ seq. is_chosen which kept.now.kept seq) (explained told.now) requests.entry)) }
+    ensures writes { OnOk result (WritesWithin most outbox.old outbox.new (answer_where (λ r. is_chosen which kept.now.kept r) (explained told.now) requests.entry)) }
     ensures before { outbox.new.before ≡ outbox.old.before }
 {
     while let Some(request) = requests.next() {
-        if is_chosen(kept, which, request.seq) {
+        if is_chosen(kept, which, request) {
             explain(alloc, outbox, request, told, last, most)?;
         }
     }

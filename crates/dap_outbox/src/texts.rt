@@ -2,12 +2,12 @@
 ghost use Rattle.std.specs.Prelude.{◌≡◌, ◌≤◌, ◌++◌, IfOk, OnOk, OnErr, IsTrue};
 ghost use Rattle.dap_body.specs.Body.{event_data_in};
 ghost use Rattle.dap_envelope.specs.Canon.{canon};
-ghost use Rattle.dap_outbox.specs.Draft.{reply, emit, ask, explained, message_of, recorded_terminal};
+ghost use Rattle.dap_outbox.specs.Draft.{reply, emit, ask, explained, came_out, message_of, recorded_terminal};
 ghost use Rattle.dap_outbox.specs.InRange.{IsRequestInRange};
 ghost use Rattle.dap_outbox.specs.Outbox.{answer_of, event_of, shape_of};
 ghost use Rattle.dap_json.specs.Field.{max_seq};
 ghost use Rattle.dap_json.specs.Writable.{is_plain_tree};
-ghost use Rattle.dap_message.specs.MessageParts.{event_name, event_body, named};
+ghost use Rattle.dap_message.specs.MessageParts.{event_name, event_body, is_plain_outcome, named};
 ghost use Rattle.dap_message.specs.Appending.{CanonIsRead};
 ghost use Rattle.dap_message.specs.Lengths.{max_fixed};
 ghost use Rattle.dap_envelope.specs.ReadBack.{ReadsBack};
@@ -19,8 +19,8 @@ use dap_debuggee::Explanation;
 use dap_json::{List, Text, Tree};
 use dap_message::laws::fixed_messages_are_short;
 use dap_message::{
-    append_answer, append_event, append_explained, append_failure, append_named_event,
-    append_request,
+    Outcome, append_answer, append_event, append_explained, append_failure, append_named_event,
+    append_outcome, append_request,
 };
 use dap_tables::Entry;
 use std::alloc::{AllocError, Global};
@@ -72,6 +72,29 @@ pub(crate) fn append_why(
 {
     let (command, why) = (request.command.as_str(), told.text.as_str());
     append_explained(alloc, out, seq, request.seq, command, why, told.show_user)
+}
+
+/// Appends the text of the response to a request that came out so, or changes nothing.
+pub(crate) fn append_response(
+    alloc: Global,
+    out: &mut Vec<u8>,
+    seq: u64,
+    request: &Entry,
+    outcome: &Outcome,
+) -> Result<(), AllocError>
+    requires { IsTrue (is_plain_outcome outcome.now) }
+    ensures canon { OnOk result (out.new.items ≡ out.old.items ++ canon (message_of seq (reply request.now (came_out outcome.now)))) }
+    ensures reads_back { OnOk result (seq ≤ max_seq → IsRequestInRange request.now → CanonIsRead (message_of seq (reply request.now (came_out outcome.now)))) }
+    ensures err { OnErr result (out.new.items ≡ out.old.items) }
+{
+    append_outcome(
+        alloc,
+        out,
+        seq,
+        request.seq,
+        request.command.as_str(),
+        outcome,
+    )
 }
 
 fn event_name(event: &Event) -> &'static str

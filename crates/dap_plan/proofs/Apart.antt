@@ -6,6 +6,7 @@ use Rattle.dap_plan.specs.Plan.{Made}
 use Rattle.dap_plan.specs.ReferenceLaws.{KeepsApart, IsStep, Runs, ReferencesAreApart}
 use Rattle.dap_plan.specs.Session.{Session}
 use Rattle.dap_plan.proofs.Deliveries.{delivery-is}
+use Rattle.dap_plan.proofs.Responses.{respond-moves}
 use Rattle.dap_plan.proofs.Happenings.{poll-is, emit-is}
 use Rattle.dap_query.proofs.Interned.{dead}
 use Rattle.dap_plan.proofs.Turns.{turn-is}
@@ -14,7 +15,8 @@ step-apart : (s : Session) (made : Made) → IsStep s made → KeepsApart s made
 step-apart s made (inl t) = (delivery-is s t.message t.plan made t.is t.can).sound.moves.apart
 step-apart s made (inr (inl t)) = ((turn-is t.view s t.plan t.is).row.outcomes made t.can).sound.moves.apart
 step-apart s made (inr (inr (inl t))) = (poll-is s made t).moves.apart
-step-apart s made (inr (inr (inr t))) = (emit-is t.name t.body s made t.can).moves.apart
+step-apart s made (inr (inr (inr (inl t)))) = (emit-is t.name t.body s made t.can).moves.apart
+step-apart s made (inr (inr (inr (inr t)))) = (respond-moves t.entry t.outcome s made t.can).apart
 
 runs-base : (later : List Made) (s new : Session) → Runs later s new → s.references.base ≤ new.references.base
 runs-base [] s new r = let same = ap (λ (x : Session). x.references.base) r in omega arith
@@ -36,5 +38,6 @@ references_are_apart = record {
   turn = λ view s plan made e is. ((turn-is view s plan e).row.outcomes made is).sound.moves.apart;
   poll = λ s made is. (poll-is s made is).moves.apart;
   emit = λ name body s made is. (emit-is name body s made is).moves.apart;
+  respond = λ r o s made is. (respond-moves r o s made is).apart;
   stays_dead = stays_dead;
 }

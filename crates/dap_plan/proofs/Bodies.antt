@@ -1,5 +1,5 @@
 -- Each success has the body that its command's row says: effect by effect, then by the table.
-use Rattle.std.proofs.Common.{◌≡◌, ◌⊎◌, inl, inr, ℕ, List, [], ◌∷◌, ◌++◌, Bool, true, false, not, cond, Option, Some, None, Result, Ok, Err, refl, sym, ap, ◌∙◌, subst, true≢false}
+use Rattle.std.proofs.Common.{◌≡◌, ◌⊎◌, inl, inr, ℕ, List, [], ◌∷◌, Bool, true, false, not, cond, Option, Some, None, Ok, Err, refl, sym, ap, ◌∙◌, subst, true≢false}
 use Rattle.std.specs.Prelude.{◌||◌, ◌&&◌, is_some, option_map, if◌then◌else◌}
 use Rattle.std.specs.List.{list_any, find}
 use Rattle.serde_json.specs.Data.{Data}
@@ -14,7 +14,7 @@ use Rattle.dap_command.specs.declared.source_key.SourceKey.{SourceKey}
 use Rattle.dap_body.specs.declared.failure.Failure.{Failure}
 use Rattle.dap_body.specs.declared.failure.Failure.TheVariants.{Cancelled, Debuggee, TooManyBreakpoints, TooLarge}
 use Rattle.dap_message.specs.MessageParts.{initialized, terminated}
-use Rattle.dap_tables.specs.Outstanding.{without, parked_ones}
+use Rattle.dap_tables.specs.Outstanding.{without}
 use Rattle.dap_tables.specs.declared.entry.Entry.{Entry}
 use Rattle.dap_tables.specs.declared.target.Target.{Target}
 use Rattle.dap_tables.proofs.KeptLemmas.{contains_seq-without}
@@ -27,10 +27,11 @@ use Rattle.dap_decision.specs.declared.effect.Effect.{Effect}
 use Rattle.dap_decision.specs.declared.effect.Effect.TheVariants as effect
 use Rattle.dap_query.specs.Bodies.{QueryAnswer, QueryResult, query_result}
 use Rattle.dap_query.specs.Queries.{object_of}
-use Rattle.dap_outbox.specs.Draft.{Answer, Draft, reply, emit, ask, success, failure, explained, plain_success}
+use Rattle.dap_outbox.specs.Draft.{Answer, Draft, reply, emit, ask, success, failure, explained, came_out, plain_success}
+use Rattle.dap_outbox.specs.Waiting.{starting_ones}
 use Rattle.dap_plan.specs.BodyLaws.{SuccessesHaveTheirBodies}
 use Rattle.dap_plan.specs.Breakpoints.{are_too_many}
-use Rattle.dap_plan.specs.Handling.{Change, ChangeResult, answer_each, after_change, after_query, assigned_result, by_reply, change_result, effect_of, failing, fits, change_reason, query_reason, lines_asked, lines_change, lines_result, plan_for, resume_body, start_unless_asked, start_parked_unless_asked, wants_terminal, parked_wants_terminal, value_change, value_result, answer_parked}
+use Rattle.dap_plan.specs.Handling.{Change, ChangeResult, after_change, after_query, assigned_result, by_reply, change_result, effect_of, failing, fits, change_reason, query_reason, lines_asked, lines_change, lines_result, plan_for, resume_body, start_unless_asked, start_parked_unless_asked, wants_terminal, parked_wants_terminal, value_change, value_result, answer_parked}
 use Rattle.dap_plan.specs.OrderLaws.{answer_to, comes_to}
 use Rattle.dap_plan.specs.Plan.{Made, Plan}
 use Rattle.dap_plan.specs.Session.{Session, query_of}
@@ -45,11 +46,13 @@ abbrev body-said : Answer → Bool
 body-said (success body names) = is_some body
 body-said (failure f) = false
 body-said (explained told) = false
+body-said (came_out o) = false
 
 abbrev is-failure : Answer → Bool
 is-failure (success body names) = false
 is-failure (failure f) = true
 is-failure (explained told) = true
+is-failure (came_out o) = true
 
 some-same : {A : Type 0} (a b : A) → Some a ≡ Some b → a ≡ b
 some-same a b e = cc
@@ -105,7 +108,7 @@ own-says view s r asked last effect.Initialize o body names h = said r _ (emit i
 own-says view s r asked last effect.Park o body names h = no-some (success body names) h
 own-says view s r asked last effect.Start o body names h = said r _ [] body names h ∙ replied s r last
 own-says view s r asked last effect.ConfigurationDone o body names h = said r _ [] body names h
-own-says view s r asked last effect.StartParked o body names h = said r _ (answer_parked s (parked_ones (without r.seq s.kept)) last) body names h
+own-says view s r asked last effect.StartParked o body names h = said r _ (answer_parked s (starting_ones (without r.seq s.kept)) last) body names h
 own-says view s r asked last effect.Ask o body names h = no-some (success body names) h
 own-says view s r asked last effect.AskParked o body names h = said r _ (ask ∷ []) body names h
 own-says view s r asked last effect.Disconnect o body names h = said r plain_success [] body names (sym (behind-others r.seq (failure Cancelled) (without r.seq s.kept) (reply r plain_success ∷ []) (contains_seq-without r.seq s.kept)) ∙ h)

@@ -15,10 +15,11 @@ use Rattle.dap_envelope.specs.declared.message.Message.{Message}
 use Rattle.dap_envelope.specs.declared.message.Kind.{Kind}
 use Rattle.dap_envelope.specs.declared.message.Kind.TheVariants.{Request as RequestKind, Response, Event, Other}
 use Rattle.serde_json.specs.Data.{Data}
-use Rattle.dap_debuggee.specs.Shown.{Reply, done, refused}
+use Rattle.dap_debuggee.specs.Shown.{Reply, refused}
 use Rattle.dap_call.specs.Terminal.{run_in_terminal}
-use Rattle.dap_tables.specs.Outstanding.{Kept, kept_unparked, contains_seq, parked_ones, HasDistinctSeqs}
+use Rattle.dap_tables.specs.Outstanding.{Kept, kept_unparked, contains_seq, HasDistinctSeqs}
 use Rattle.dap_tables.specs.declared.entry.Entry.{Entry as Request}
+use Rattle.dap_outbox.specs.Waiting.{waits_to_start, starting_ones}
 use Rattle.dap_plan.specs.declared.fault.AdapterFault.{AdapterFault}
 use Rattle.dap_plan.specs.declared.fault.AdapterFault.TheVariants.{RepeatedSeq, Unmatched, CommandMismatch, Ended as EndedFault}
 use Rattle.dap_decision.specs.declared.phase.Phase.{Phase}
@@ -105,18 +106,18 @@ after_keeping-taken false s r h = at_once-taken s r (failure Busy) (bare-failure
 walked-named : (id : Option ℕ) (s : Session) (r : Request) → HasDistinctSeqs (s.kept ++ kept_unparked r ∷ []) → Walked (answer_each (failure Cancelled) (named_by id s.kept)) (asks s.kept ++ came r) (asks (unnamed_by id s.kept) ++ came r)
 walked-named None s r d = walked-none (asks s.kept ++ came r)
 walked-named (Some seq) s r d =
-    let told = walked-each (λ (k : Kept). not k.parked && (k.entry.seq == seq)) (failure Cancelled) s.kept (kept_unparked r ∷ []) [] d in
+    let told = walked-each (λ (k : Kept). not (waits_to_start k) && (k.entry.seq == seq)) (failure Cancelled) s.kept (kept_unparked r ∷ []) [] d in
     let here = subst (λ (qs : List Asked). Walked (answer_each (failure Cancelled) (cancelled_by seq s.kept)) qs (asks (not_cancelled_by seq s.kept ++ kept_unparked r ∷ []))) (joined s.kept r) told in
     subst (λ (qs : List Asked). Walked (answer_each (failure Cancelled) (cancelled_by seq s.kept)) (asks s.kept ++ came r) qs) (joined (not_cancelled_by seq s.kept) r) here
 
 unnamed-distinct : (id : Option ℕ) (s : Session) (r : Request) → IsNew s r → HasDistinctSeqs (unnamed_by id s.kept ++ kept_unparked r ∷ [])
 unnamed-distinct None s r n = joined-distinct s r n
 unnamed-distinct (Some seq) s r n =
-    distinct-more (not_cancelled_by seq s.kept) (kept_unparked r) (distinct-filter (λ k. not (not k.parked && (k.entry.seq == seq))) s.kept n.distinct) (contains-filter r.seq (λ k. not (not k.parked && (k.entry.seq == seq))) s.kept n.new)
+    distinct-more (not_cancelled_by seq s.kept) (kept_unparked r) (distinct-filter (λ k. not (not (waits_to_start k) && (k.entry.seq == seq))) s.kept n.distinct) (contains-filter r.seq (λ k. not (not (waits_to_start k) && (k.entry.seq == seq))) s.kept n.new)
 
 unnamed-few : (id : Option ℕ) (kept : List Kept) → length (unnamed_by id kept) ≤ length kept
 unnamed-few None kept = omega arith
-unnamed-few (Some seq) kept = length-filtered (λ k. not (not k.parked && (k.entry.seq == seq))) kept
+unnamed-few (Some seq) kept = length-filtered (λ k. not (not (waits_to_start k) && (k.entry.seq == seq))) kept
 
 after_cancel-walked : (id : Option ℕ) (s : Session) (r : Request) → IsNew s r → Walked (after_cancel id r s).drafts (asks s.kept ++ came r) (asks (unnamed_by id s.kept))
 after_cancel-walked id s r n =
@@ -240,15 +241,15 @@ record IsAnswer (s : Session) (request_seq : ℕ) (command : List ℕ) (n : ℕ)
   few : length m.after.kept ≤ length s.kept
   count : length m.drafts ≡ n
 
-started-answer : (s : Session) (request_seq : ℕ) (command : List ℕ) (last : Reply) → is_asked request_seq s.asked ≡ true → command ≡ run_in_terminal → IsAnswer s request_seq command (length (parked_ones s.kept)) (after_terminal s last)
+started-answer : (s : Session) (request_seq : ℕ) (command : List ℕ) (last : Reply) → is_asked request_seq s.asked ≡ true → command ≡ run_in_terminal → IsAnswer s request_seq command (length (starting_ones s.kept)) (after_terminal s last)
 started-answer s request_seq command last h e =
-    let parked = parked_ones s.kept in
+    let parked = starting_ones s.kept in
     let answer = by_reply_each s parked last in
     let count = length-each answer parked in
     record {
       sound = answered-sound s (after_terminal s last) request_seq command h e (is-plain s _ refl refl refl) (each-bare answer parked (bare-parked s parked last)) (each-asks-none answer parked) refl (omega arith)
-          (λ (d : HasDistinctSeqs s.kept). walked-all (λ (x : Kept). x.parked) answer s.kept d) (λ suits. none-started last None refl);
-      few = length-filtered (λ (k : Kept). not k.parked) s.kept;
+          (λ (d : HasDistinctSeqs s.kept). walked-all waits_to_start answer s.kept d) (λ suits. none-started last None refl);
+      few = length-filtered (λ (k : Kept). not (waits_to_start k)) s.kept;
       count = count;
     }
 
@@ -268,7 +269,7 @@ late-answer s request_seq command h e late =
 terminal-answer : (ok : Bool) (s : Session) (request_seq : ℕ) (command : List ℕ) (made : Made) → is_asked request_seq s.asked ≡ true → command ≡ run_in_terminal → CanMake (plan_of_terminal ok s) made → IsAnswer s request_seq command (messages_due (plan_of_terminal ok s)) made
 terminal-answer true s request_seq command made h e is =
     let o = started-answer s request_seq command is.0 h e in
-    let due : length (parked_ones s.kept) ≡ length (answer_each plain_success (parked_ones s.kept)) = sym (length-each plain_success (parked_ones s.kept)) in
+    let due : length (starting_ones s.kept) ≡ length (answer_each plain_success (starting_ones s.kept)) = sym (length-each plain_success (starting_ones s.kept)) in
     subst (λ (x : Made). IsAnswer s request_seq command (messages_due (plan_of_terminal true s)) x) (sym is.1) (record { sound = o.sound; few = o.few; count = o.count ∙ due })
 terminal-answer false s request_seq command made h e is =
     let o = started-answer s request_seq command (refused None) h e in
@@ -337,7 +338,7 @@ request-exact false false s r plan e = given-exact s (at_once (after_taking r s)
 
 terminal-exact : (ok : Bool) (s : Session) → IsExact (plan_of_terminal ok s)
 terminal-exact true s = λ made is.
-    let parked = parked_ones s.kept in
+    let parked = starting_ones s.kept in
     ap (λ (x : Made). length x.drafts) is.1 ∙ (length-each (by_reply_each s parked is.0) parked ∙ sym (length-each plain_success parked))
 terminal-exact false s = once-exact (after_terminal s (refused None))
 

@@ -2,13 +2,14 @@
 use Rattle.std.proofs.Common.{inr, ℤ, ◌≡◌, ◌+◌, [], ◌∷◌, true, None, length, refl}
 use Rattle.dap_message.specs.MessageParts.{terminated}
 use Rattle.dap_call.specs.declared.call.Call.{Call}
-use Rattle.dap_tables.specs.Outstanding.{Kept, without, parked_ones}
+use Rattle.dap_tables.specs.Outstanding.{Kept, without}
 use Rattle.dap_debuggee.specs.Laws.{state_after, may_answer}
 use Rattle.dap_debuggee.specs.declared.answers.How.{How}
 use Rattle.dap_debuggee.specs.declared.answers.State.{State}
 use Rattle.dap_debuggee.specs.declared.answers.State.TheVariants as state
 use Rattle.std.specs.Prelude.{IsTrue, ⊤}
 use Rattle.dap_plan.proofs.Placed.{is_placed, unstarted, at-rest}
+use Rattle.dap_outbox.specs.Waiting.{starting_ones}
 use Rattle.dap_plan.specs.StateLaws.{IsStateOf}
 use Rattle.dap_debuggee.specs.Shown.{Shown, to_start, to_resume, to_end, Reply, done, refused, happened}
 use Rattle.dap_decision.specs.declared.effect.Effect.{Effect}
@@ -105,7 +106,7 @@ effect-row effect.ConfigurationDone view s asked n p q = record {
   order = λ r w. well-so effect.ConfigurationDone s r asked None _ refl (λ last. succeeds-first r []);
 }
 effect-row effect.StartParked view s asked n p q = record {
-  outcome = λ k i o. asking-row s (length (parked_ones (without k.entry.seq s.kept)) + 1) _ (after_parked_launch s k.entry) (after_parked_launch-outcome s k p i) (λ (last : Reply). each-clean (by_reply_each s (parked_ones (without k.entry.seq s.kept)) last) (parked_ones (without k.entry.seq s.kept)) (parked-clean s (parked_ones (without k.entry.seq s.kept)) last)) (λ first before last may h. starts-its-state first before last (unstarted first s.phase before q h));
+  outcome = λ k i o. asking-row s (length (starting_ones (without k.entry.seq s.kept)) + 1) _ (after_parked_launch s k.entry) (after_parked_launch-outcome s k p i) (λ (last : Reply). each-clean (by_reply_each s (starting_ones (without k.entry.seq s.kept)) last) (starting_ones (without k.entry.seq s.kept)) (parked-clean s (starting_ones (without k.entry.seq s.kept)) last)) (λ first before last may h. starts-its-state first before last (unstarted first s.phase before q h));
   order = λ r w. well-so effect.StartParked s r asked None _ refl (λ last. starts-parked-so s r last);
 }
 effect-row effect.Disconnect view s asked n p q = record {

@@ -1,11 +1,10 @@
 -- Worked examples of failures with why the debuggee refused, each shown by computation.
-use Rattle.std.proofs.Common.{◌≡◌, List, [], ◌∷◌, true, false, codes, Option, Some, None, pos, refl}
+use Rattle.std.proofs.Common.{◌≡◌, List, [], ◌∷◌, true, false, codes, Some, None, pos, refl}
 use Rattle.std.specs.Prelude.{◌+◌, ◌&&◌}
 use Rattle.dap_frame.specs.Settings.{usual_settings}
 use Rattle.dap_outbox.specs.Outbox.{explanation_fits_as}
 use Rattle.dap_body.specs.declared.failure.Failure.{Failure}
 use Rattle.dap_body.specs.declared.failure.Failure.TheVariants.{Debuggee, TooLarge, StaleReference}
-use Rattle.dap_call.specs.declared.call.Call.{Call}
 use Rattle.dap_call.specs.declared.call.Call.TheVariants as call
 use Rattle.dap_command.specs.declared.source_key.SourceKey.TheVariants.{Reference}
 use Rattle.dap_debuggee.specs.Shown.{done, refused, for_frames, for_value, for_content, for_verified}

@@ -1,8 +1,9 @@
 -- A request that is handled waits for no turn any more: fewer are left to handle.
-use Rattle.std.proofs.Common.{◌≡◌, ℕ, ◌<◌, ◌≤◌, List, [], ◌∷◌, ◌++◌, Bool, true, false, cond, length, refl, sym, ◌∙◌, subst, arith, true≢false}
+use Rattle.std.proofs.Common.{filter, ◌≡◌, ℕ, ◌<◌, ◌≤◌, List, [], ◌∷◌, ◌++◌, Bool, true, false, cond, length, refl, sym, ◌∙◌, subst, arith, true≢false}
 use Rattle.std.specs.Prelude.{◌==◌, ◌&&◌, ◌||◌, not, if◌then◌else◌}
 use Rattle.std.proofs.lemmas.List.Folds.{list_any-append}
 use Rattle.dap_tables.specs.Outstanding.{Kept, contains_seq, is_parked, without, with_mark, kept_with_mark, unparked_ones, HasDistinctSeqs}
+use Rattle.dap_outbox.specs.Waiting.{waits_to_start, not_starting_ones}
 use Rattle.dap_plan.specs.Session.{Session, to_handle}
 use Rattle.dap_plan.proofs.Kept.{IsKept, IsApart, apart, contains-append, eqb-self, both-false, none-parked, length-filtered}
 
@@ -64,13 +65,28 @@ fewer-kept_with_mark seq [] c u = absurd (true≢false (sym c))
 fewer-kept_with_mark seq (k ∷ kept) c u =
     parks-at (k.entry.seq == seq) k (with_mark seq true kept) kept (contains_seq seq kept) (is_parked seq kept) c u (kept_with_mark-at-most seq kept) (fewer-kept_with_mark seq kept)
 
--- ---- none, and without the parked ones
+-- ---- none, and without those that wait to start
 
 unparked-at-most : (kept : List Kept) → to_handle kept ≤ length kept
 unparked-at-most kept = length-filtered (λ (k : Kept). not k.parked) kept
 
-parked-fewer : (seq : ℕ) (kept : List Kept) → contains_seq seq kept ≡ true → is_parked seq kept ≡ false → to_handle (unparked_ones (without seq kept)) < to_handle kept
-parked-fewer seq kept c u = let h = fewer-without seq kept c u in let m = unparked-at-most (unparked_ones (without seq kept)) in omega arith
+starting-more : (p w : Bool) (k : Kept) (xs ys : List Kept) → length xs ≤ length ys → length (if p then (if w then k ∷ xs else xs) else xs) ≤ length (if w then k ∷ ys else ys)
+starting-more true true k xs ys h = omega arith
+starting-more true false k xs ys h = h
+starting-more false true k xs ys h = omega arith
+starting-more false false k xs ys h = h
+
+unparked-passing : (p : Bool) (k : Kept) (xs ys : List Kept) → to_handle xs ≤ to_handle ys → to_handle (if p then k ∷ xs else xs) ≤ length (if not k.parked then k ∷ unparked_ones ys else unparked_ones ys)
+unparked-passing true k xs ys h = starting-more true (not k.parked) k (unparked_ones xs) (unparked_ones ys) h
+unparked-passing false k xs ys h = starting-more false (not k.parked) k (unparked_ones xs) (unparked_ones ys) h
+
+-- no filter adds to them
+unparked-filtered : (p : Kept → Bool) (kept : List Kept) → to_handle (filter p kept) ≤ to_handle kept
+unparked-filtered p [] = omega arith
+unparked-filtered p (k ∷ kept) = unparked-passing (p k) k (filter p kept) kept (unparked-filtered p kept)
+
+starting-fewer : (seq : ℕ) (kept : List Kept) → contains_seq seq kept ≡ true → is_parked seq kept ≡ false → to_handle (not_starting_ones (without seq kept)) < to_handle kept
+starting-fewer seq kept c u = let h = fewer-without seq kept c u in let m = unparked-filtered (λ (k : Kept). not (waits_to_start k)) (without seq kept) in omega arith
 
 -- ---- the request that is handled
 
@@ -110,9 +126,9 @@ fewer-handled s k d i = fewer-without k.entry.seq s.kept (is-contained s k i) (i
 pub fewer-park : (s : Session) (k : Kept) → HasDistinctSeqs s.kept → IsHandled s k → to_handle (with_mark k.entry.seq true s.kept) < to_handle s.kept
 fewer-park s k d i = fewer-kept_with_mark k.entry.seq s.kept (is-contained s k i) (is-unparked s k d i)
 
--- where those that are parked are kept no more either
-pub fewer-unparked : (s : Session) (k : Kept) → HasDistinctSeqs s.kept → IsHandled s k → to_handle (unparked_ones (without k.entry.seq s.kept)) < to_handle s.kept
-fewer-unparked s k d i = parked-fewer k.entry.seq s.kept (is-contained s k i) (is-unparked s k d i)
+-- where those that wait to start are kept no more either
+pub fewer-started : (s : Session) (k : Kept) → HasDistinctSeqs s.kept → IsHandled s k → to_handle (not_starting_ones (without k.entry.seq s.kept)) < to_handle s.kept
+fewer-started s k d i = starting-fewer k.entry.seq s.kept (is-contained s k i) (is-unparked s k d i)
 
 -- where none is kept
 pub fewer-none : (s : Session) (k : Kept) → HasDistinctSeqs s.kept → IsHandled s k → 0 < to_handle s.kept

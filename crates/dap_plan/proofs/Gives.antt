@@ -1,6 +1,7 @@
 -- What an answer gives is live.
 use Rattle.dap_plan.specs.GivenLaws.{EachAnswerGivesLive}
 use Rattle.dap_plan.proofs.Deliveries.{delivery-is}
+use Rattle.dap_plan.proofs.Responses.{respond-is}
 use Rattle.dap_plan.proofs.Happenings.{poll-is, emit-is}
 use Rattle.dap_plan.proofs.Turns.{turn-is}
 
@@ -10,4 +11,5 @@ each_answer_gives_live = record {
   turn = λ view s plan made e is. ((turn-is view s plan e).row.outcomes made is).sound.gives;
   poll = λ s made is. (poll-is s made is).gives;
   emit = λ name body s made is. (emit-is name body s made is).gives;
+  respond = λ r o s made l is. (respond-is r o s made l is).gives;
 }

@@ -3,6 +3,7 @@ use Rattle.dap_history.specs.HistoryLaws.{HistoriesGrow}
 use Rattle.dap_plan.specs.Answering.{EachStepGoesWell}
 use Rattle.dap_plan.specs.Laws.{EachStepGoesOn}
 use Rattle.dap_plan.proofs.Deliveries.{delivery-is}
+use Rattle.dap_plan.proofs.Responses.{respond-is}
 use Rattle.dap_plan.proofs.Happenings.{poll-is, emit-is}
 use Rattle.dap_plan.proofs.Steps.{outs_of-entries, ins_of-entries, goes_on-alone, goes_on-delivered}
 use Rattle.dap_plan.proofs.Turns.{turn-is}
@@ -13,6 +14,7 @@ each_step_goes_well = record {
   turn = λ view s plan made d e is. ((turn-is view s plan e).row.outcomes made is).sound.well d;
   poll = λ s made is. (poll-is s made is).well tt;
   emit = λ name body s made is. (emit-is name body s made is).well tt;
+  respond = λ r o s made d l is. (respond-is r o s made l is).well d;
   fewer = λ view s plan made d e is. ((turn-is view s plan e).row.outcomes made is).fewer d;
 }
 
@@ -24,4 +26,5 @@ each_step_goes_on laws = record {
   turn = λ view s plan made h d e is f. goes_on-alone laws s made h (((turn-is view s plan e).row.outcomes made is).sound.well d) f;
   poll = λ s made h is f. goes_on-alone laws s made h ((poll-is s made is).well tt) f;
   emit = λ name body s made h is f. goes_on-alone laws s made h ((emit-is name body s made is).well tt) f;
+  respond = λ r o s made h d l is f. goes_on-alone laws s made h ((respond-is r o s made l is).well d) f;
 }

@@ -4,8 +4,11 @@ pub mod Rows
 pub mod Going
 pub mod Moves
 pub mod Outcomes
+pub mod Responses
 pub mod Turns
 pub mod Happenings
+pub mod LendingWell
+pub mod PlacesLeft
 pub mod Distinct
 pub mod Deliveries
 pub mod Apart

@@ -19,7 +19,7 @@ use Rattle.dap_plan.specs.GivenLaws.{given_by, answers_set_variable, AllGiveLive
 use Rattle.dap_plan.specs.Handling.{answer_each, explained_if, failing, failing_each, fits_explained, fits_explained_each}
 use Rattle.dap_plan.specs.Laws.{CanMake}
 use Rattle.dap_plan.specs.Plan.{Made, Plan, at_once, asking, after_answering, messages_due, entries_of, references_end_if}
-use Rattle.dap_outbox.specs.Draft.{Answer, success, failure, explained, plain_success, Draft, reply, emit, ask, requests_in, names_in, names_of, outs}
+use Rattle.dap_outbox.specs.Draft.{Answer, success, failure, explained, came_out, plain_success, Draft, reply, emit, ask, requests_in, names_in, names_of, outs}
 use Rattle.dap_plan.specs.References.{references_after}
 use Rattle.dap_plan.specs.RefusalLaws.{is_for_room}
 use Rattle.dap_debuggee.specs.declared.answers.State.{State}
@@ -184,6 +184,7 @@ abbrev pub is_refused : Answer → Bool
 is_refused (success body names) = false
 is_refused (failure f) = is_for_room f
 is_refused (explained told) = false
+is_refused (came_out o) = false
 
 abbrev pub refuses : Draft → Bool
 refuses (reply r answer) = is_refused answer

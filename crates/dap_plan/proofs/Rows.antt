@@ -3,7 +3,6 @@ use Rattle.std.proofs.Common.{◌≡◌, ℕ, ◌+◌, List, [], ◌∷◌, ◌+
 use Rattle.std.specs.Prelude.{◌==◌, not, if◌then◌else◌, nat_lt}
 use Rattle.std.proofs.lemmas.List.Elements.{filter-append}
 use Rattle.std.proofs.lemmas.List.{append-nil, length-map}
-use Rattle.serde_json.specs.Data.{Data}
 use Rattle.dap_frame.specs.Settings.{Settings}
 use Rattle.dap_history.specs.History.{Asked}
 use Rattle.dap_history.specs.Requests.{asked_of, asks}
@@ -14,10 +13,11 @@ use Rattle.dap_body.specs.declared.failure.Failure.TheVariants.{Cancelled, TooLa
 use Rattle.dap_command.specs.declared.source_key.SourceKey.{SourceKey}
 use Rattle.dap_tables.specs.Breakpoints.{SetBreakpoints, count_with, breakpoints_with, max_id}
 use Rattle.dap_tables.specs.declared.entry.Entry.{Entry}
-use Rattle.dap_tables.specs.Outstanding.{Kept, contains_seq, without, with_mark, kept_with_mark, parked_ones, unparked_ones, HasDistinctSeqs}
+use Rattle.dap_tables.specs.Outstanding.{Kept, contains_seq, without, with_mark, kept_with_mark, HasDistinctSeqs}
 use Rattle.dap_tables.proofs.SetLemmas.{count-breakpoints_with}
 use Rattle.dap_debuggee.specs.Laws.{state_after}
 use Rattle.dap_debuggee.specs.declared.answers.State.{State}
+use Rattle.dap_outbox.specs.Waiting.{waits_to_start, starting_ones, not_starting_ones}
 use Rattle.dap_plan.specs.StateLaws.{IsStateOf}
 use Rattle.dap_debuggee.specs.declared.explanation.Explanation.{Explanation}
 use Rattle.dap_debuggee.specs.Shown.{Shown, Act, Reply, done, refused, happened}
@@ -30,13 +30,14 @@ use Rattle.dap_query.specs.References.{AreLive}
 use Rattle.dap_plan.specs.Breakpoints.{are_too_many}
 use Rattle.dap_decision.specs.Failures.{command_of}
 use Rattle.dap_plan.specs.GivenLaws.{is_set_variable}
+use Rattle.dap_plan.specs.Lending.{after_lending}
 use Rattle.dap_plan.specs.Handling.{lines_change, lines_result, after_initialize, after_park, after_asking, after_asking_parked, after_launch, after_configuration_done, after_parked_launch, after_disconnect, after_terminate, after_resume, resume_body, after_query, fits, by_reply, answer_each, lines_asked, Change, ChangeResult, change_asked, after_change, change_result, by_reply_each, failing, failing_each}
 use Rattle.dap_plan.specs.Plan.{Made, at_once, after_answering}
 use Rattle.dap_outbox.specs.Draft.{Answer, success, failure, plain_success, reply, emit, ask, requests_in}
 use Rattle.dap_plan.specs.Session.{Session, query_of}
 use Rattle.dap_outbox.specs.Draft.{own_request}
 use Rattle.dap_plan.proofs.ChangeResults.{lines-due, value-due}
-use Rattle.dap_plan.proofs.Fewer.{IsHandled, fewer-handled, fewer-park, fewer-unparked, fewer-none}
+use Rattle.dap_plan.proofs.Fewer.{IsHandled, fewer-handled, fewer-park, fewer-started, fewer-none}
 use Rattle.dap_query.proofs.Interned.{le-not}
 use Rattle.dap_plan.proofs.Kept.{Walked, walked-none, walked-event, walked-ask, walked-append, walked-each, walked-kept, walked-one, rejected, IsKept, distinct-without, apart, eqb-self, false-left, false-right}
 use Rattle.dap_plan.proofs.Moves.{StandFew, moves-grown, moves-set, moves-plain, is-plain}
@@ -86,6 +87,14 @@ after_park-outcome s k q i =
     (λ (d : HasDistinctSeqs s.kept). fewer-park s k d i)
     (asks-nothing s _ refl tt (none-in s.phase s.asked q))
 
+-- it is lent
+pub after_lending-outcome : (s : Session) (k : Kept) → IsHandled s k → IsOutcome s 0 (after_lending s k.entry)
+after_lending-outcome s k i =
+    plain-outcome s 0 (after_lending s k.entry) (is-plain s _ refl refl refl) tt (omega arith) refl
+    (λ (d : HasDistinctSeqs s.kept). subst (λ (qs : List Asked). Walked [] (asks s.kept) qs) (sym (asks-kept_with_mark k.entry.seq true s.kept)) (walked-none (asks s.kept)))
+    (λ (d : HasDistinctSeqs s.kept). fewer-park s k d i)
+    (asks-nothing s _ refl tt (λ suits. suits))
+
 pub bare-by_reply : (s : Session) (r : Entry) (last : Reply) → IsBare (by_reply s r last)
 bare-by_reply s r done = bare-success
 bare-by_reply s r (refused why) = bare-failing (failing s r Debuggee why) Debuggee (failing-is s r Debuggee why)
@@ -116,22 +125,22 @@ after_launch-outcome s k q i last = plain-reply s k (by_reply s k.entry last) (a
 pub after_configuration_done-outcome : (s : Session) (k : Kept) → asks_none s.phase ≡ true → IsHandled s k → IsOutcome s 1 (after_configuration_done s k.entry)
 after_configuration_done-outcome s k q i = plain-reply s k plain_success (after_configuration_done s k.entry) i bare-success refl refl refl (is-plain s _ refl refl refl) refl (none-in s.phase s.asked q)
 
-after_parked_launch-walked : (s : Session) (k : Kept) (last : Reply) → IsHandled s k → HasDistinctSeqs s.kept → Walked (after_parked_launch s k.entry last).drafts (asks s.kept) (asks (unparked_ones (without k.entry.seq s.kept)))
+after_parked_launch-walked : (s : Session) (k : Kept) (last : Reply) → IsHandled s k → HasDistinctSeqs s.kept → Walked (after_parked_launch s k.entry last).drafts (asks s.kept) (asks (not_starting_ones (without k.entry.seq s.kept)))
 after_parked_launch-walked s k last i d =
     let others = without k.entry.seq s.kept in
-    let answer = by_reply_each s (parked_ones others) last in
+    let answer = by_reply_each s (starting_ones others) last in
     let first = walked-kept plain_success s.kept k d i.kept in
-    let rest = walked-all (λ (x : Kept). x.parked) answer others (distinct-without s.kept k d i.kept) in
-    walked-append (reply k.entry plain_success ∷ []) (answer_each answer (parked_ones others)) (asks s.kept) (asks others) (asks (unparked_ones others)) first rest
+    let rest = walked-all waits_to_start answer others (distinct-without s.kept k d i.kept) in
+    walked-append (reply k.entry plain_success ∷ []) (answer_each answer (starting_ones others)) (asks s.kept) (asks others) (asks (not_starting_ones others)) first rest
 
-pub after_parked_launch-outcome : (s : Session) (k : Kept) → asks_none s.phase ≡ true → IsHandled s k → (last : Reply) → IsOutcome s (length (parked_ones (without k.entry.seq s.kept)) + 1) (after_parked_launch s k.entry last)
+pub after_parked_launch-outcome : (s : Session) (k : Kept) → asks_none s.phase ≡ true → IsHandled s k → (last : Reply) → IsOutcome s (length (starting_ones (without k.entry.seq s.kept)) + 1) (after_parked_launch s k.entry last)
 after_parked_launch-outcome s k q i last =
-    let others = parked_ones (without k.entry.seq s.kept) in
+    let others = starting_ones (without k.entry.seq s.kept) in
     let answer = by_reply_each s others last in
     let count = length-each answer others in
     plain-outcome s (length others + 1) (after_parked_launch s k.entry last) (is-plain s _ refl refl refl) (refl, refl, each-bare answer others (bare-parked s others last)) (omega arith) (omega arith)
     (λ (d : HasDistinctSeqs s.kept). after_parked_launch-walked s k last i d)
-    (λ (d : HasDistinctSeqs s.kept). fewer-unparked s k d i)
+    (λ (d : HasDistinctSeqs s.kept). fewer-started s k d i)
     (asks-nothing s _ refl (each-asks-none answer others) (λ suits. none-started last s.asked (none-in s.phase s.asked q suits)))
 
 -- ---- a terminal

@@ -4,7 +4,6 @@ use Rattle.std.specs.List.{AllByRecursion}
 use Rattle.std.specs.Prelude.{◌==◌, ◌||◌, is_none, is_some, nat_lt, nat_le, option_map, option_and_then, if◌then◌else◌}
 use Rattle.std.proofs.lemmas.Bool.Decides.{nat_tests}
 use Rattle.dap_frame.specs.Settings.{Settings}
-use Rattle.serde_json.specs.Data.{Data}
 use Rattle.dap_call.specs.declared.call.Call.{Call}
 use Rattle.dap_call.specs.declared.call.Call.TheVariants as call
 use Rattle.dap_command.specs.declared.command.Command.{Command}
@@ -28,6 +27,7 @@ use Rattle.dap_decision.specs.declared.phase.Phase.TheVariants.{Configured}
 use Rattle.dap_query.specs.Bodies.{QueryAnswer, QueryResult}
 use Rattle.dap_query.specs.Laws.{AreFew, IsAnsweredOrRefused, is_refused, is_answered}
 use Rattle.dap_query.specs.Queries.{object_of}
+use Rattle.dap_outbox.specs.Waiting.{waits_to_start, starting_ones}
 use Rattle.dap_plan.specs.Breakpoints.{are_too_many}
 use Rattle.dap_plan.specs.Handling.{after_query, after_initialize, after_asking, after_asking_parked, after_launch, after_parked_launch, after_resume, after_disconnect, by_reply, answer_each, fits, lines_asked, Change, ChangeResult, change_asked, after_change, change_result, lines_change, lines_result, value_change, assigned_result, value_result, failing, change_reason, by_reply_each, answer_parked}
 use Rattle.dap_plan.specs.OrderLaws.{refuses, sets_too_many, live_with, is_past_room, is_past_numbers, names_too_many, exhausts_numbers, is_too_large, is_long_answer, is_long_change, act_in, act_of, answer_to, comes_to, IsSuccess, IsByReply, IsDoneOrRefused, ParksAndAsks, AnswersAndAsks, IsAnswered}
@@ -284,6 +284,9 @@ among-others seq answer (k ∷ ks) h = among-if (k.entry.seq == seq) (contains_s
 parked-apart : (seq : ℕ) (ks : List Kept) → contains_seq seq ks ≡ false → contains_seq seq (parked_ones ks) ≡ false
 parked-apart seq ks h = contains-filter seq (λ (k : Kept). k.parked) ks h
 
+starting-apart : (seq : ℕ) (ks : List Kept) → contains_seq seq ks ≡ false → contains_seq seq (starting_ones ks) ≡ false
+starting-apart seq ks h = contains-filter seq waits_to_start ks h
+
 not-among : (seq : ℕ) (before : List Kept) (k : Kept) (after : List Kept) → contains_seq seq (before ++ k ∷ after) ≡ false → (k.entry.seq == seq) ≡ false
 not-among seq before k after h =
     false-left (k.entry.seq == seq) (contains_seq seq after) (false-right (contains_seq seq before) (contains_seq seq (k ∷ after)) (sym (contains-append seq before (k ∷ after)) ∙ h))
@@ -302,8 +305,8 @@ each-replied s parked r last before (k ∷ ks) h =
 
 pub starts-parked-so : (s : Session) (r : Entry) (last : Reply) → IsAnswered effect.StartParked s r last (after_parked_launch s r last)
 starts-parked-so s r last =
-    let parked = parked_ones (without r.seq s.kept) in
-    (succeeds-first r (answer_parked s parked last), each-replied s parked r last [] parked (parked-apart r.seq (without r.seq s.kept) (contains_seq-without r.seq s.kept)))
+    let parked = starting_ones (without r.seq s.kept) in
+    (succeeds-first r (answer_parked s parked last), each-replied s parked r last [] parked (starting-apart r.seq (without r.seq s.kept) (contains_seq-without r.seq s.kept)))
 
 -- a terminal
 

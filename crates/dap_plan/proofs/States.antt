@@ -110,4 +110,5 @@ each_step_keeps_state = record {
   turn = λ first view s plan e. (turn-is view s plan e).row.keeps first;
   poll = λ first s. polled-keeps first (has_debuggee s.phase) s;
   emit = λ first name body s before h. h;
+  respond = λ first r o s before h. h;
 }

@@ -13,12 +13,16 @@ use Rattle.dap_plan.specs.Laws.{CanMake}
 use Rattle.dap_plan.specs.Plan.{Made, Plan}
 use Rattle.dap_plan.specs.Polling.{polls}
 use Rattle.dap_plan.specs.Emitting.{emits}
+use Rattle.dap_plan.specs.Responding.{IsLent, responds}
+use Rattle.dap_message.specs.declared.outcome.Outcome.{Outcome}
+use Rattle.dap_tables.specs.declared.entry.Entry.{Entry}
 use Rattle.serde_json.specs.Data.{Data}
 use Rattle.dap_plan.specs.Session.{Session, IsOrderly, opened_session}
 use Rattle.dap_plan.specs.Taking.{takes}
 use Rattle.dap_plan.specs.Within.{IsWithin, EachStepStaysWithin}
 use Rattle.dap_plan.proofs.Deliveries.{delivery-is, delivery-exact}
 use Rattle.dap_plan.proofs.Distinct.{AreDistinct, asks-distinct, distinct-asks, distinct-open, length-open, length-asks}
+use Rattle.dap_plan.proofs.Responses.{respond-is, respond-moves}
 use Rattle.dap_plan.proofs.Happenings.{poll-is, emit-is}
 use Rattle.dap_plan.proofs.Moves.{Moves}
 use Rattle.dap_plan.proofs.Outcomes.{Stays}
@@ -79,6 +83,9 @@ poll-stays s made i is u = let p = poll-is s made is in none-came s made i p.mov
 emit-stays : (name : List ℕ) (body : Option Data) (s : Session) (made : Made) → IsWithin s → CanMake (emits name body s) made → made.after.used ≤ s.limits.seq → IsWithin made.after
 emit-stays name body s made i is u = let p = emit-is name body s made is in none-came s made i p.moves p.stays (p.well tt) u
 
+respond-stays : (r : Entry) (o : Outcome) (s : Session) (made : Made) → IsWithin s → IsLent s r → CanMake (responds r o s) made → made.after.used ≤ s.limits.seq → IsWithin made.after
+respond-stays r o s made i l is u = let p = respond-is r o s made l is in none-came s made i p.moves p.stays (p.well (orderly s i)) u
+
 opened-within : (limits : Settings) (offers : Offer) → IsWithin (opened_session limits offers)
 opened-within limits offers = record { distinct = tt; kept = omega arith; asked = refl; used = omega arith; references = omega arith; numbers = omega arith; breakpoints = omega arith; ids = omega arith }
 
@@ -89,14 +96,17 @@ each_step_stays_within = record {
   turn = turn-stays;
   poll = poll-stays;
   emit = emit-stays;
+  respond = respond-stays;
   take_keeps_limits = λ s m plan made e is. (delivery-is s m plan made e is).sound.moves.limits;
   turn_keeps_limits = λ view s plan made e is. ((turn-is view s plan e).row.outcomes made is).sound.moves.limits;
   poll_keeps_limits = λ s made is. (poll-is s made is).moves.limits;
   emit_keeps_limits = λ name body s made is. (emit-is name body s made is).moves.limits;
+  respond_keeps_limits = λ r o s made is. (respond-moves r o s made is).limits;
   take_keeps_offers = λ s m plan made e is. (delivery-is s m plan made e is).sound.moves.offers;
   turn_keeps_offers = λ view s plan made e is. ((turn-is view s plan e).row.outcomes made is).sound.moves.offers;
   poll_keeps_offers = λ s made is. (poll-is s made is).moves.offers;
   emit_keeps_offers = λ name body s made is. (emit-is name body s made is).moves.offers;
+  respond_keeps_offers = λ r o s made is. (respond-moves r o s made is).offers;
   due_is_exact = λ view s plan made i e is. ((turn-is view s plan e).row.outcomes made is).count;
   take_due_is_exact = λ s m plan made i e is. delivery-exact s m plan e made is;
 }

@@ -6,9 +6,10 @@ use Rattle.dap_history.specs.Answers.{Answers, AnswersOne}
 use Rattle.dap_history.specs.History.{Entry, In, Out, ReferencesEnd, Came, Asked, Answered, waiting, without_answered, ins_of, outs_of, AreNumberedAfter, response_at, response_as, request_as, Went}
 use Rattle.dap_history.specs.HistoryLaws.{HistoriesGrow}
 use Rattle.dap_envelope.specs.declared.message.Message.{Message}
+use Rattle.dap_message.specs.declared.outcome.Outcome.TheVariants.{Success, Failure}
 use Rattle.dap_plan.specs.Answering.{answered_by, AnswersEach, open_after, GoesWell}
 use Rattle.dap_plan.specs.Plan.{Made, entries_of, references_end_if}
-use Rattle.dap_outbox.specs.Draft.{success, failure, explained, Draft, reply, emit, ask, request_of, requests_in, message_of, names_of, numbered_messages, outs}
+use Rattle.dap_outbox.specs.Draft.{success, failure, explained, came_out, Draft, reply, emit, ask, request_of, requests_in, message_of, names_of, numbered_messages, outs}
 use Rattle.dap_plan.specs.References.{references_then, references_after, references_of}
 use Rattle.dap_tables.specs.References.{LiveReferences, no_references}
 use Rattle.dap_plan.specs.Session.{Session, own_requests}
@@ -38,6 +39,8 @@ seq-of-message : (n : ℕ) (d : Draft) → (message_of n d).seq ≡ n
 seq-of-message n (reply r (success body names)) = refl
 seq-of-message n (reply r (failure f)) = refl
 seq-of-message n (reply r (explained told)) = refl
+seq-of-message n (reply r (came_out (Success body))) = refl
+seq-of-message n (reply r (came_out (Failure message body))) = refl
 seq-of-message n (emit event) = refl
 seq-of-message n ask = refl
 
@@ -55,6 +58,8 @@ response-of-message : (n : ℕ) (d : Draft) → response_as (message_of n d).kin
 response-of-message n (reply r (success body names)) = refl
 response-of-message n (reply r (failure f)) = refl
 response-of-message n (reply r (explained told)) = refl
+response-of-message n (reply r (came_out (Success body))) = refl
+response-of-message n (reply r (came_out (Failure message body))) = refl
 response-of-message n (emit event) = refl
 response-of-message n ask = refl
 
@@ -62,6 +67,8 @@ request-of-message : (n : ℕ) (d : Draft) → option_to_list (request_as (messa
 request-of-message n (reply r (success body names)) = refl
 request-of-message n (reply r (failure f)) = refl
 request-of-message n (reply r (explained told)) = refl
+request-of-message n (reply r (came_out (Success body))) = refl
+request-of-message n (reply r (came_out (Failure message body))) = refl
 request-of-message n (emit event) = refl
 request-of-message n ask = refl
 

@@ -18,13 +18,15 @@ use Rattle.dap_plan.specs.declared.fault.AdapterFault.{AdapterFault}
 use Rattle.dap_decision.specs.declared.phase.Phase.TheVariants.{Fresh}
 use Rattle.dap_decision.specs.Failures.{command_of, call_in, first_failure, or_else, when, name_refused, key_refused, phase_refused, call_refused, read_refused, known_refused, waits_for_stop}
 use Rattle.dap_plan.specs.Handling.{refusal}
-use Rattle.dap_plan.specs.Handling.{effect_of, parked_wants_terminal, wants_terminal, plan_of_call, plan_of_command, plan_unless, plan as plan_at, some_plan, turn_of, turns}
-use Rattle.dap_plan.specs.Plan.{Plan, messages_due, plan_within_numbers}
+use Rattle.dap_plan.specs.Handling.{effect_of, parked_wants_terminal, wants_terminal, plan_of_call, plan_of_command, plan_unless, plan_if_opened, plan_of_turn, some_plan, turn_of, turns}
+use Rattle.dap_plan.specs.Lending.{after_lending, lends_unless, lending_refused, opened_in}
+use Rattle.dap_plan.specs.Plan.{Plan, at_once, messages_due, plan_within_numbers}
 use Rattle.dap_plan.specs.Session.{Session, oldest}
 use Rattle.dap_decision.specs.Table.{effect_in, is_served, is_phase}
 use Rattle.dap_plan.proofs.Fewer.{IsHandled}
 use Rattle.dap_plan.proofs.Kept.{kept-found, found-passes}
-use Rattle.dap_plan.proofs.Outcomes.{IsRow, failed-row}
+use Rattle.dap_plan.proofs.Outcomes.{IsRow, failed-row, once-row}
+use Rattle.dap_plan.proofs.Rows.{after_lending-outcome}
 use Rattle.dap_plan.proofs.OwnRequests.{is-in, still-in, still-suits}
 use Rattle.dap_plan.proofs.EffectRows.{Answers, effect-row}
 use Rattle.dap_plan.proofs.Placed.{placed, still-placed, queries-no-setter}
@@ -82,13 +84,22 @@ unless-row : (view : Shown) (s : Session) (k : Kept) (o : Option Failure) → Is
 unless-row view s k (Some f) i h = failed-row s k f i
 unless-row view s k None i h = command-row view s k (command_of k.entry) i refl h
 
+-- a request that is lent, or not
+unless-lent : (s : Session) (k : Kept) (o : Option Failure) → IsHandled s k → IsRow s (at_once (lends_unless o s k.entry))
+unless-lent s k None i = once-row s 0 (after_lending s k.entry) (after_lending-outcome s k i) refl (λ first before h. h)
+unless-lent s k (Some f) i = failed-row s k f i
+
+opened-row : (view : Shown) (s : Session) (k : Kept) (o : Option Bool) → IsHandled s k → IsRow s (plan_if_opened o view s k.entry)
+opened-row view s k None i = unless-row view s k (refusal view s k.entry) i refl
+opened-row view s k (Some in_stops) i = unless-lent s k (lending_refused s k.entry in_stops) i
+
 -- ---- a plan that is afforded
 
 pub afforded : (b : Bool) (p q : Plan) (fault : AdapterFault) → (let given : Result Plan AdapterFault = (if b then Ok p else Err fault) in given) ≡ Ok q → (b ≡ true) × (q ≡ p)
 afforded true p q fault e = (refl, cc)
 afforded false p q fault e = cc
 
-some-afforded : (given : Result Plan AdapterFault) (q : Plan) → some_plan given ≡ Ok (Some q) → given ≡ Ok q
+pub some-afforded : (given : Result Plan AdapterFault) (q : Plan) → some_plan given ≡ Ok (Some q) → given ≡ Ok q
 some-afforded (Ok p) q e = cc
 some-afforded (Err fault) q e = cc
 
@@ -97,7 +108,7 @@ le-of a b h = grind (arith, nat_tests)
 
 -- ---- the turn
 
-not-parked : (b : Bool) → not b ≡ true → b ≡ false
+pub not-parked : (b : Bool) → not b ≡ true → b ≡ false
 not-parked true h = cc
 not-parked false h = refl
 
@@ -109,10 +120,10 @@ pub record IsTurn (s : Session) (plan : Plan) : Type 0 where
 turn-of : (view : Shown) (s : Session) (o : Option Kept) (plan : Plan) → oldest s.kept ≡ o → turn_of view s o ≡ Ok (Some plan) → IsTurn s plan
 turn-of view s None plan is e = cc
 turn-of view s (Some k) plan is e =
-    let p = plan_at view s k.entry in
+    let p = plan_of_turn view s k.entry in
     let given = afforded (nat_le (s.used + messages_due p) s.limits.seq) p plan _ (some-afforded (plan_within_numbers s p) plan e) in
     let handled : IsHandled s k = record { kept = kept-found (λ (x : Kept). not x.parked) s.kept k is; unparked = not-parked k.parked (found-passes (λ (x : Kept). not x.parked) s.kept k is) } in
-    let row = unless-row view s k (refusal view s k.entry) handled refl in
+    let row = opened-row view s k (opened_in s k.entry) handled in
     subst (λ (x : Plan). IsTurn s x) (sym given.1) (record { row = row; room = le-of (s.used + messages_due p) s.limits.seq given.0 })
 
 pub turn-is : (view : Shown) (s : Session) (plan : Plan) → turns view s ≡ Ok (Some plan) → IsTurn s plan

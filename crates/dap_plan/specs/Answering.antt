@@ -11,6 +11,9 @@ use Rattle.dap_plan.specs.Laws.{CanMake}
 use Rattle.dap_plan.specs.Plan.{Made, Plan, entries_of}
 use Rattle.dap_outbox.specs.Draft.{Draft, reply, emit, ask, requests_in}
 use Rattle.dap_plan.specs.Polling.{polls}
+use Rattle.dap_plan.specs.Responding.{IsLent, responds}
+use Rattle.dap_message.specs.declared.outcome.Outcome.{Outcome}
+use Rattle.dap_tables.specs.declared.entry.Entry.{Entry as Request}
 use Rattle.dap_plan.specs.Emitting.{emits}
 use Rattle.serde_json.specs.Data.{Data}
 use Rattle.dap_plan.specs.References.{references_after}
@@ -57,5 +60,6 @@ pub record EachStepGoesWell : Type 0 where
   pub turn : (view : Shown) (s : Session) (plan : Plan) (made : Made) → IsOrderly s → turns view s ≡ Ok (Some plan) → CanMake plan made → GoesWell s [] None made
   pub poll : (s : Session) (made : Made) → CanMake (polls s) made → GoesWell s [] None made
   pub emit : (name : List ℕ) (body : Option Data) (s : Session) (made : Made) → CanMake (emits name body s) made → GoesWell s [] None made
+  pub respond : (r : Request) (o : Outcome) (s : Session) (made : Made) → IsOrderly s → IsLent s r → CanMake (responds r o s) made → GoesWell s [] None made
   -- fewer requests are left to handle after a turn
   pub fewer : (view : Shown) (s : Session) (plan : Plan) (made : Made) → HasDistinctSeqs s.kept → turns view s ≡ Ok (Some plan) → CanMake plan made → to_handle made.after.kept < to_handle s.kept

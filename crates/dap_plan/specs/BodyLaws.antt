@@ -1,6 +1,6 @@
 -- What is served has the body that the row of its command says.
 -- Specification, the types whose names end in "Response".
-use Rattle.std.specs.Prelude.{◌≡◌, ℕ, List, is_some, Option, Some}
+use Rattle.std.specs.Prelude.{◌≡◌, List, is_some, Option, Some}
 use Rattle.serde_json.specs.Data.{Data}
 use Rattle.dap_call.specs.CallTree.{command_of}
 use Rattle.dap_call.specs.declared.call.Call.{Call}

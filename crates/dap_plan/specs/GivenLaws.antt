@@ -13,8 +13,12 @@ use Rattle.dap_decision.specs.Failures.{command_of}
 use Rattle.dap_plan.specs.Handling.{turns}
 use Rattle.dap_plan.specs.Laws.{CanMake}
 use Rattle.dap_plan.specs.Plan.{Made, Plan}
-use Rattle.dap_outbox.specs.Draft.{success, failure, explained, Draft, reply, emit, ask}
+use Rattle.dap_outbox.specs.Draft.{success, failure, explained, came_out, Draft, reply, emit, ask}
 use Rattle.dap_plan.specs.Polling.{polls}
+use Rattle.dap_plan.specs.Responding.{IsLent, responds}
+use Rattle.dap_message.specs.declared.outcome.Outcome.{Outcome}
+use Rattle.dap_message.specs.declared.outcome.Outcome.TheVariants.{Success, Failure}
+use Rattle.dap_tables.specs.declared.entry.Entry.{Entry as Request}
 use Rattle.dap_plan.specs.Emitting.{emits}
 use Rattle.serde_json.specs.Data.{Data}
 use Rattle.dap_plan.specs.Session.{Session}
@@ -25,6 +29,8 @@ abbrev pub given_by : Draft → List (ReferenceKind × ℕ)
 given_by (reply r (success body names)) = references_given_in (command_of r) body
 given_by (reply r (failure f)) = []
 given_by (reply r (explained told)) = []
+given_by (reply r (came_out (Success body))) = references_given_in (command_of r) body
+given_by (reply r (came_out (Failure message body))) = []
 given_by (emit event) = []
 given_by ask = []
 
@@ -49,3 +55,4 @@ pub record EachAnswerGivesLive : Type 0 where
   pub turn : (view : Shown) (s : Session) (plan : Plan) (made : Made) → turns view s ≡ Ok (Some plan) → CanMake plan made → AllGiveLive made.after.references made.drafts
   pub poll : (s : Session) (made : Made) → CanMake (polls s) made → AllGiveLive made.after.references made.drafts
   pub emit : (name : List ℕ) (body : Option Data) (s : Session) (made : Made) → CanMake (emits name body s) made → AllGiveLive made.after.references made.drafts
+  pub respond : (r : Request) (o : Outcome) (s : Session) (made : Made) → IsLent s r → CanMake (responds r o s) made → AllGiveLive made.after.references made.drafts

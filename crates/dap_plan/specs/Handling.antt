@@ -40,7 +40,8 @@ use Rattle.dap_outbox.specs.Outbox.{explanation_fits_as}
 use Rattle.dap_outbox.specs.Draft.{Answer, success, failure, explained, plain_success, Draft, reply, emit, ask}
 use Rattle.dap_tables.specs.References.{without_references}
 use Rattle.dap_plan.specs.Session.{Session, oldest, query_of}
-use Rattle.dap_tables.specs.Outstanding.{parked_ones, unparked_ones}
+use Rattle.dap_outbox.specs.Waiting.{starting_ones, not_starting_ones}
+use Rattle.dap_plan.specs.Lending.{opened_in, plan_of_lending}
 use Rattle.dap_decision.specs.Table.{effect_in}
 use Rattle.dap_debuggee.specs.declared.answers.Placement.{Placement}
 
@@ -76,7 +77,7 @@ abbrev pub failing : Session → Entry → Failure → Option Explanation → An
 failing s r Debuggee (Some told) = explained_if (fits_explained s r told) told
 failing s r f _ = failure f
 
--- The same of what is parked, which is answered alike: the reason is given where it fits in the answer to each of them, whatever
+-- The same of what waits for the debuggee to start, which is answered alike: the reason is given where it fits in the answer to each of them, whatever
 -- own number that has.
 abbrev pub fits_explained_each : Session → List Kept → Explanation → Bool
 fits_explained_each s parked told = list_all (λ k. explanation_fits_as s.limits.seq s.limits.body k.entry told) parked
@@ -92,7 +93,7 @@ abbrev pub by_reply : Session → Entry → Reply → Answer
 by_reply s r done = plain_success
 by_reply s r last = failing s r Debuggee (reason_of last)
 
--- the same of what is parked
+-- the same of what waits for the start
 abbrev pub by_reply_each : Session → List Kept → Reply → Answer
 by_reply_each s parked done = plain_success
 by_reply_each s parked last = failing_each s parked (reason_of last)
@@ -117,16 +118,16 @@ after_configuration_done s r = record { drafts = reply r plain_success ∷ []; d
 abbrev pub answer_each : Answer → List Kept → List Draft
 answer_each answer kept = map (λ k. reply k.entry answer) kept
 
--- what is parked is answered by the reply
+-- what waits for the start is answered by the reply
 abbrev pub answer_parked : Session → List Kept → Reply → List Draft
 answer_parked s parked last = answer_each (by_reply_each s parked last) parked
 
--- the request is answered, then what was parked
+-- the request is answered, then what waited for the debuggee to start
 abbrev pub after_parked_launch : Session → Entry → Reply → Made
 after_parked_launch s r last = record {
-  drafts = reply r plain_success ∷ answer_parked s (parked_ones (without r.seq s.kept)) last;
+  drafts = reply r plain_success ∷ answer_parked s (starting_ones (without r.seq s.kept)) last;
   drops = false;
-  after = record s { phase = start_phase last; kept = unparked_ones (without r.seq s.kept); used = s.used + (1 + length (parked_ones (without r.seq s.kept))) };
+  after = record s { phase = start_phase last; kept = not_starting_ones (without r.seq s.kept); used = s.used + (1 + length (starting_ones (without r.seq s.kept))) };
 }
 
 -- ---- a terminal
@@ -357,14 +358,22 @@ plan view s r = plan_unless (refusal view s r) view s r
 
 -- ---- a turn: None where no request waits to be handled
 
+-- a command that is opened, and of stops alone or not, is lent; each other one is handled
+abbrev pub plan_if_opened : Option Bool → Shown → Session → Entry → Plan
+plan_if_opened None view s r = plan view s r
+plan_if_opened (Some in_stops) view s r = plan_of_lending s r in_stops
+
+abbrev pub plan_of_turn : Shown → Session → Entry → Plan
+plan_of_turn view s r = plan_if_opened (opened_in s r) view s r
+
 abbrev pub some_plan : Result Plan AdapterFault → Result (Option Plan) AdapterFault
 some_plan (Ok p) = Ok (Some p)
 some_plan (Err fault) = Err fault
 
 abbrev pub turn_of : Shown → Session → Option Kept → Result (Option Plan) AdapterFault
 turn_of view s None = Ok None
-turn_of view s (Some k) = some_plan (plan_within_numbers s (plan view s k.entry))
+turn_of view s (Some k) = some_plan (plan_within_numbers s (plan_of_turn view s k.entry))
 
--- the oldest request that is not parked is handled
+-- the oldest request that is not parked is handled, or lent
 abbrev pub turns : Shown → Session → Result (Option Plan) AdapterFault
 turns view s = turn_of view s (oldest s.kept)

@@ -9,6 +9,9 @@ use Rattle.dap_plan.specs.Handling.{turns}
 use Rattle.dap_plan.specs.Plan.{Made, Plan, at_once, asking, entries_of}
 use Rattle.dap_outbox.specs.Draft.{numbered_messages}
 use Rattle.dap_plan.specs.Polling.{polls}
+use Rattle.dap_plan.specs.Responding.{IsLent, responds}
+use Rattle.dap_message.specs.declared.outcome.Outcome.{Outcome}
+use Rattle.dap_tables.specs.declared.entry.Entry.{Entry as Request}
 use Rattle.dap_plan.specs.Emitting.{emits}
 use Rattle.dap_plan.specs.Session.{Session, IsOrderly}
 use Rattle.dap_plan.specs.Follows.{Follows}
@@ -35,4 +38,6 @@ pub record EachStepGoesOn : Type 0 where
   pub poll : (s : Session) (made : Made) (h : List Entry) → CanMake (polls s) made
       → Follows s h → Follows made.after (h ++ entries_of s.used made)
   pub emit : (name : List ℕ) (body : Option Data) (s : Session) (made : Made) (h : List Entry) → CanMake (emits name body s) made
+      → Follows s h → Follows made.after (h ++ entries_of s.used made)
+  pub respond : (r : Request) (o : Outcome) (s : Session) (made : Made) (h : List Entry) → IsOrderly s → IsLent s r → CanMake (responds r o s) made
       → Follows s h → Follows made.after (h ++ entries_of s.used made)

@@ -3,10 +3,12 @@ pub mod Breakpoints
 pub mod Session
 pub mod Plan
 pub mod Carried
+pub mod Lending
 pub mod Handling
 pub mod Taking
 pub mod Polling
 pub mod Emitting
+pub mod Responding
 pub mod Follows
 pub mod Laws
 pub mod Within
@@ -20,4 +22,5 @@ pub mod OfferLaws
 pub mod BodyLaws
 pub mod OrderLaws
 pub mod GivenLaws
+pub mod OpenedLaws
 pub mod StateLaws

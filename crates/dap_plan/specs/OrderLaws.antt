@@ -1,5 +1,5 @@
 -- The tests of a request, those before it is served and those after, stand in the one order of failures.
--- That order is this profile's choice. It is of a request that is handled in a turn; a `cancel` is answered where it is taken.
+-- That order is this profile's choice. It is of a request that is handled in a turn: one whose command is opened is lent there, and a `cancel` is answered where it is taken.
 use Rattle.std.specs.List.{AllByRecursion}
 use Rattle.std.specs.Prelude.{◌≡◌, ◌+◌, ◌==◌, ◌&&◌, ℕ, nat_lt, nat_le, not, ⊤, Bool, true, false, List, [], ◌∷◌, length, Option, Some, None, is_none, option_map, option_and_then, find, Ok, Err, if◌then◌else◌}
 use Rattle.dap_call.specs.Argument.{Read}
@@ -29,7 +29,8 @@ use Rattle.dap_plan.specs.Handling.{refusal}
 use Rattle.dap_plan.specs.Handling.{ChangeResult, change_result, plan, fits, lines_asked, failing, failing_each, query_reason, change_reason, after_park, effect_of}
 use Rattle.dap_decision.specs.Failures.{thread_of}
 use Rattle.dap_plan.specs.Plan.{Made, Plan, at_once, asking, after_answering}
-use Rattle.dap_outbox.specs.Draft.{Answer, success, failure, Draft, reply, emit, ask, requests_in}
+use Rattle.dap_outbox.specs.Draft.{Answer, success, Draft, reply, emit, ask, requests_in}
+use Rattle.dap_outbox.specs.Waiting.{starting_ones}
 use Rattle.dap_plan.specs.Session.{Session, query_of}
 use Rattle.dap_outbox.specs.Draft.{own_request}
 use Rattle.dap_decision.specs.Table.{effect_in, is_phase, is_served, is_never_served}
@@ -186,7 +187,7 @@ abbrev pub IsSuccess : Option Answer → Type 0
 IsSuccess (Some (success body names)) = ⊤
 IsSuccess _ = ⊥
 
--- a success where the debuggee did what it was asked, else the failure `debuggee`, with the reason that it gives where that fits in the answer to each of those that are parked
+-- a success where the debuggee did what it was asked, else the failure `debuggee`, with the reason that it gives where that fits in the answer to each of those that wait for it
 abbrev pub IsByReply : Session → List Kept → Reply → Option Answer → Type 0
 IsByReply s parked done answer = IsSuccess answer
 IsByReply s parked last answer = answer ≡ Some (failing_each s parked (reason_of last))
@@ -196,7 +197,7 @@ abbrev pub IsDoneOrRefused : Session → Entry → Reply → Made → Type 0
 IsDoneOrRefused s r done m = IsSuccess (answer_to r.seq m.drafts)
 IsDoneOrRefused s r last m = m ≡ after_answering r (failing s r Debuggee (reason_of last)) s
 
--- each of those that are parked is answered by the reply
+-- each of those that wait for it is answered by the reply
 abbrev pub AreAnswered : Session → List Kept → Reply → Made → Type 0
 AreAnswered s parked last m = AllByRecursion (λ k. IsByReply s parked last (answer_to k.entry.seq m.drafts)) parked
 
@@ -220,7 +221,7 @@ pub record AnswersAndAsks (s : Session) (r : Entry) (m : Made) : Type 0 where
   pub parked : parked_ones m.after.kept ≡ parked_ones (without r.seq s.kept)
   pub asks : AsksTerminal s m
 
--- A request that is parked is not answered yet: neither one that comes before `configurationDone`, nor one for which a terminal is asked. One that starts, resumes or pauses the debuggee is answered by its reply, and so are those that are parked where the debuggee is started for them. Each other one succeeds.
+-- A request that is parked is not answered yet: neither one that comes before `configurationDone`, nor one for which a terminal is asked. One that starts, resumes or pauses the debuggee is answered by its reply, and so are those that wait for that where the debuggee is started for them. Each other one succeeds.
 abbrev pub IsAnswered : Effect → Session → Entry → Reply → Made → Type 0
 IsAnswered effect.Park s r last m = m ≡ after_park s r
 IsAnswered effect.Ask s r last m = ParksAndAsks s r m
@@ -228,7 +229,7 @@ IsAnswered effect.AskParked s r last m = AnswersAndAsks s r m
 IsAnswered effect.Start s r last m = IsDoneOrRefused s r last m
 IsAnswered (effect.Resume how) s r last m = IsDoneOrRefused s r last m
 IsAnswered effect.Pause s r last m = IsDoneOrRefused s r last m
-IsAnswered effect.StartParked s r last m = IsSuccess (answer_to r.seq m.drafts) × AreAnswered s (parked_ones (without r.seq s.kept)) last m
+IsAnswered effect.StartParked s r last m = IsSuccess (answer_to r.seq m.drafts) × AreAnswered s (starting_ones (without r.seq s.kept)) last m
 IsAnswered _ s r last m = IsSuccess (answer_to r.seq m.drafts)
 
 -- the command is served by an effect of the table, unless a terminal is asked for first: the debuggee is asked what that effect asks, and this comes of it

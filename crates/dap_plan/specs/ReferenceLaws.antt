@@ -2,6 +2,9 @@
 -- Overview, "Lifetime of Objects References".
 use Rattle.std.specs.Prelude.{◌≡◌, ◌⊎◌, ℕ, ◌≤◌, List, [], ◌∷◌, true, false, Option, Some, None, Ok}
 use Rattle.serde_json.specs.Data.{Data}
+use Rattle.dap_plan.specs.Responding.{IsLent, responds}
+use Rattle.dap_message.specs.declared.outcome.Outcome.{Outcome}
+use Rattle.dap_tables.specs.declared.entry.Entry.{Entry as Request}
 use Rattle.dap_plan.specs.Emitting.{emits}
 use Rattle.dap_tables.specs.declared.target.Target.{Target}
 use Rattle.dap_envelope.specs.declared.message.Message.{Message}
@@ -42,9 +45,15 @@ pub record IsEmitted (s : Session) (made : Made) : Type 0 where
   pub body : Option Data
   pub can : CanMake (emits name body s) made
 
--- a message was delivered, a request handled, the debuggee asked what happened, or an event told by its name
+pub record IsResponded (s : Session) (made : Made) : Type 0 where
+  pub entry : Request
+  pub outcome : Outcome
+  pub lent : IsLent s entry
+  pub can : CanMake (responds entry outcome s) made
+
+-- a message was delivered, a request handled, the debuggee asked what happened, an event told by its name, or a lent request answered
 abbrev pub IsStep : Session → Made → Type 0
-IsStep s made = IsTaken s made ⊎ (IsTurned s made ⊎ (CanMake (polls s) made ⊎ IsEmitted s made))
+IsStep s made = IsTaken s made ⊎ (IsTurned s made ⊎ (CanMake (polls s) made ⊎ (IsEmitted s made ⊎ IsResponded s made)))
 
 abbrev pub Runs : List Made → Session → Session → Type 0
 Runs [] s new = new ≡ s
@@ -59,5 +68,6 @@ pub record ReferencesAreApart : Type 0 where
   pub turn : (view : Shown) (s : Session) (plan : Plan) (made : Made) → turns view s ≡ Ok (Some plan) → CanMake plan made → KeepsApart s made
   pub poll : (s : Session) (made : Made) → CanMake (polls s) made → KeepsApart s made
   pub emit : (name : List ℕ) (body : Option Data) (s : Session) (made : Made) → CanMake (emits name body s) made → KeepsApart s made
+  pub respond : (r : Request) (o : Outcome) (s : Session) (made : Made) → CanMake (responds r o s) made → KeepsApart s made
   -- a number that was live before all died names nothing ever after, whatever steps come
   pub stays_dead : (s new : Session) (made : Made) (later : List Made) (n : ℕ) (t : Target) → IsStep s made → made.drops ≡ true → target_of s.references n ≡ Some t → Runs later made.after new → target_of new.references n ≡ None

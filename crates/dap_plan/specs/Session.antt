@@ -10,6 +10,7 @@ use Rattle.dap_decision.specs.declared.phase.Phase.{Phase}
 use Rattle.dap_decision.specs.declared.phase.Phase.TheVariants.{Fresh, Asked as AskedPhase, Ended}
 use Rattle.dap_tables.specs.Seq.{Numbers}
 use Rattle.dap_outbox.specs.Draft.{own_request}
+use Rattle.dap_outbox.specs.Waiting.{waits_to_start}
 use Rattle.dap_query.specs.Queries.{QueryState, usual_options}
 use Rattle.dap_query.specs.declared.options.Options.{Options}
 use Rattle.dap_tables.specs.References.{LiveReferences, no_references}
@@ -62,13 +63,13 @@ numbers_of s = record { last = s.limits.seq; used = s.used }
 
 -- ---- kept requests
 
--- those that a cancel of that number answers
+-- those that a cancel of that number answers: not what waits for the debuggee to start
 abbrev pub cancelled_by : ℕ → List Kept → List Kept
-cancelled_by seq kept = filter (λ k. not k.parked && (k.entry.seq == seq)) kept
+cancelled_by seq kept = filter (λ k. not (waits_to_start k) && (k.entry.seq == seq)) kept
 
 -- and the others
 abbrev pub not_cancelled_by : ℕ → List Kept → List Kept
-not_cancelled_by seq kept = filter (λ k. not (not k.parked && (k.entry.seq == seq))) kept
+not_cancelled_by seq kept = filter (λ k. not (not (waits_to_start k) && (k.entry.seq == seq))) kept
 
 -- the request that came first of those that are not parked
 abbrev pub oldest : List Kept → Option Kept

@@ -12,6 +12,9 @@ use Rattle.dap_decision.specs.declared.phase.Phase.TheVariants.{Running, Stopped
 use Rattle.dap_plan.specs.Handling.{turns}
 use Rattle.dap_plan.specs.Plan.{Plan, at_once, asking}
 use Rattle.dap_plan.specs.Polling.{polls}
+use Rattle.dap_plan.specs.Responding.{responds}
+use Rattle.dap_message.specs.declared.outcome.Outcome.{Outcome}
+use Rattle.dap_tables.specs.declared.entry.Entry.{Entry as Request}
 use Rattle.dap_plan.specs.Emitting.{emits}
 use Rattle.dap_plan.specs.Session.{Session}
 use Rattle.dap_plan.specs.Taking.{takes}
@@ -34,3 +37,4 @@ pub record EachStepKeepsState : Type 0 where
   pub turn : (first : State) (view : Shown) (s : Session) (plan : Plan) → turns view s ≡ Ok (Some plan) → KeepsState first s plan
   pub poll : (first : State) (s : Session) → KeepsState first s (polls s)
   pub emit : (first : State) (name : List ℕ) (body : Option Data) (s : Session) → KeepsState first s (emits name body s)
+  pub respond : (first : State) (r : Request) (o : Outcome) (s : Session) → KeepsState first s (responds r o s)

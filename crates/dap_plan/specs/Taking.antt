@@ -13,7 +13,7 @@ use Rattle.dap_body.specs.declared.failure.Failure.TheVariants.{NotInitialized, 
 use Rattle.dap_envelope.specs.declared.message.Message.{Message}
 use Rattle.dap_envelope.specs.declared.message.Kind.{Kind}
 use Rattle.dap_envelope.specs.declared.message.Kind.TheVariants.{Request, Response, Event, Other}
-use Rattle.dap_tables.specs.Outstanding.{Kept, kept_unparked, contains_seq, parked_ones, unparked_ones}
+use Rattle.dap_tables.specs.Outstanding.{Kept, kept_unparked, contains_seq}
 use Rattle.dap_tables.specs.declared.entry.Entry.{Entry}
 use Rattle.dap_decision.specs.declared.phase.Phase.{Phase}
 use Rattle.dap_decision.specs.declared.phase.Phase.TheVariants.{Fresh, Asked, Ended}
@@ -23,6 +23,7 @@ use Rattle.dap_decision.specs.Failures.{command_of, of_known}
 use Rattle.dap_plan.specs.Handling.{answer_each, answer_parked, start_phase}
 use Rattle.dap_plan.specs.Plan.{Made, Plan, at_once, asking, no_change, plan_within_numbers}
 use Rattle.dap_outbox.specs.Draft.{Answer, failure, plain_success, reply}
+use Rattle.dap_outbox.specs.Waiting.{starting_ones, not_starting_ones}
 use Rattle.dap_plan.specs.Session.{Session, cancelled_by, not_cancelled_by, is_asked}
 use Rattle.dap_decision.specs.Table.{is_phase}
 
@@ -42,7 +43,7 @@ abbrev pub id_in : Call → Option ℕ
 id_in (call.Cancel id) = id
 id_in _ = None
 
--- the requests that it names: kept, with that number, and not parked
+-- the requests that it names: kept, with that number, and not waiting for the debuggee to start
 abbrev pub named_by : Option ℕ → List Kept → List Kept
 named_by None kept = []
 named_by (Some seq) kept = cancelled_by seq kept
@@ -91,12 +92,12 @@ takes_request r s =
 
 -- To the request for a terminal: Specification, "RunInTerminal Request". What a response does, and when it comes too late, is this profile's choice.
 
--- what was parked is answered, as the debuggee started or not
+-- what waited for that is answered, as the debuggee started or not
 abbrev pub after_terminal : Session → Reply → Made
 after_terminal s last = record {
-  drafts = answer_parked s (parked_ones s.kept) last;
+  drafts = answer_parked s (starting_ones s.kept) last;
   drops = false;
-  after = record s { phase = start_phase last; kept = unparked_ones s.kept; asked = None; used = s.used + length (parked_ones s.kept) };
+  after = record s { phase = start_phase last; kept = not_starting_ones s.kept; asked = None; used = s.used + length (starting_ones s.kept) };
 }
 
 -- it comes too late to have an effect

@@ -12,6 +12,9 @@ use Rattle.dap_plan.specs.Handling.{turns}
 use Rattle.dap_plan.specs.Laws.{CanMake}
 use Rattle.dap_plan.specs.Plan.{Made, Plan, messages_due}
 use Rattle.dap_plan.specs.Polling.{polls}
+use Rattle.dap_plan.specs.Responding.{IsLent, responds}
+use Rattle.dap_message.specs.declared.outcome.Outcome.{Outcome}
+use Rattle.dap_tables.specs.declared.entry.Entry.{Entry as Request}
 use Rattle.dap_plan.specs.Emitting.{emits}
 use Rattle.dap_plan.specs.Session.{Session, IsAskedIn, opened_session}
 use Rattle.dap_plan.specs.Taking.{takes}
@@ -42,16 +45,19 @@ pub record EachStepStaysWithin : Type 0 where
   pub poll : (s : Session) (made : Made) → IsWithin s → CanMake (polls s) made → made.after.used ≤ s.limits.seq → IsWithin made.after
   -- where an own number is left
   pub emit : (name : List ℕ) (body : Option Data) (s : Session) (made : Made) → IsWithin s → CanMake (emits name body s) made → made.after.used ≤ s.limits.seq → IsWithin made.after
+  pub respond : (r : Request) (o : Outcome) (s : Session) (made : Made) → IsWithin s → IsLent s r → CanMake (responds r o s) made → made.after.used ≤ s.limits.seq → IsWithin made.after
   -- the limits stay
   pub take_keeps_limits : (s : Session) (m : Message) (plan : Plan) (made : Made) → takes m s ≡ Ok plan → CanMake plan made → made.after.limits ≡ s.limits
   pub turn_keeps_limits : (view : Shown) (s : Session) (plan : Plan) (made : Made) → turns view s ≡ Ok (Some plan) → CanMake plan made → made.after.limits ≡ s.limits
   pub poll_keeps_limits : (s : Session) (made : Made) → CanMake (polls s) made → made.after.limits ≡ s.limits
   pub emit_keeps_limits : (name : List ℕ) (body : Option Data) (s : Session) (made : Made) → CanMake (emits name body s) made → made.after.limits ≡ s.limits
+  pub respond_keeps_limits : (r : Request) (o : Outcome) (s : Session) (made : Made) → CanMake (responds r o s) made → made.after.limits ≡ s.limits
   -- and so do the offers
   pub take_keeps_offers : (s : Session) (m : Message) (plan : Plan) (made : Made) → takes m s ≡ Ok plan → CanMake plan made → made.after.offers ≡ s.offers
   pub turn_keeps_offers : (view : Shown) (s : Session) (plan : Plan) (made : Made) → turns view s ≡ Ok (Some plan) → CanMake plan made → made.after.offers ≡ s.offers
   pub poll_keeps_offers : (s : Session) (made : Made) → CanMake (polls s) made → made.after.offers ≡ s.offers
   pub emit_keeps_offers : (name : List ℕ) (body : Option Data) (s : Session) (made : Made) → CanMake (emits name body s) made → made.after.offers ≡ s.offers
+  pub respond_keeps_offers : (r : Request) (o : Outcome) (s : Session) (made : Made) → CanMake (responds r o s) made → made.after.offers ≡ s.offers
   -- a turn takes as many messages as was said before the debuggee was asked
   pub due_is_exact : (view : Shown) (s : Session) (plan : Plan) (made : Made) → IsWithin s → turns view s ≡ Ok (Some plan) → CanMake plan made → length made.drafts ≡ messages_due plan
   -- and so does a message that is taken

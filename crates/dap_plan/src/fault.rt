@@ -1,4 +1,4 @@
-//! Why an adapter is closed, and why an event is not told.
+//! Why an adapter is closed, why an event is not told, and why a lent request is not answered.
 
 use dap_envelope::BodyRefusal;
 use dap_frame::FrameFault;
@@ -36,7 +36,7 @@ impl From<AllocError> for AdapterFault {
     }
 }
 
-/// Why an event is not told by its name: the first of these that holds, in this order. Nothing changes then.
+/// Why an event is not told by its name: the first that holds, in this order, or memory. Nothing changes then.
 #[derive(Clone, Copy, Debug, PartialEq, Eq)]
 pub enum EmitFault {
     /// The adapter is closed by a fault.
@@ -62,5 +62,31 @@ impl From<AllocError> for EmitFault {
 
     fn from(_: AllocError) -> Self {
         EmitFault::OutOfMemory
+    }
+}
+
+/// Why a lent request is not answered: the first that holds, in this order, or memory. Nothing changes then.
+#[derive(Clone, Copy, Debug, PartialEq, Eq)]
+pub enum RespondFault {
+    /// The adapter is closed by a fault.
+    Closed,
+    /// No request with this number is lent: it never came, had no turn yet, waits for the debuggee to start, or is answered.
+    NotLent,
+    /// The body would be longer than the limit.
+    TooLarge,
+    /// No own sequence number is left.
+    SeqExhausted,
+    /// Memory was refused.
+    OutOfMemory,
+}
+
+impl From<AllocError> for RespondFault {
+    ghost use Rattle.std.specs.Prelude.{◌≡◌};
+    ghost use Rattle.dap_plan.specs.declared.fault.RespondFault.{RespondFault};
+
+    ghost from_gives = { λ _ fault. fault ≡ RespondFault.OutOfMemory };
+
+    fn from(_: AllocError) -> Self {
+        RespondFault::OutOfMemory
     }
 }

@@ -4,7 +4,8 @@ ghost use Rattle.dap_plan.specs.BodyLaws.{SuccessesHaveTheirBodies};
 ghost use Rattle.dap_plan.specs.GivenLaws.{EachAnswerGivesLive};
 ghost use Rattle.dap_plan.specs.Laws.{EachStepGoesOn};
 ghost use Rattle.dap_plan.specs.OrderLaws.{FailuresComeInOrder, RefusalsComeInOrder};
-ghost use Rattle.dap_plan.specs.OfferLaws.{EachOfferIsServed, OffersAreServed};
+ghost use Rattle.dap_plan.specs.OpenedLaws.{LendingStaysWell, OpenedCommandsAreLent};
+ghost use Rattle.dap_plan.specs.OfferLaws.{EachOfferIsServed, OffersAreServed, OpenedIsUnserved};
 ghost use Rattle.dap_plan.specs.ReferenceLaws.{ReferencesAreApart};
 ghost use Rattle.dap_plan.specs.RefusalLaws.{RefusalsChangeNothing};
 ghost use Rattle.dap_plan.specs.StaleLaws.{DeadNumbersAreStale};
@@ -42,10 +43,12 @@ pub fn references_are_apart()
 {}
 
 /// What `initialize` offers is what is served: the usual flags allow a command just where the table has a row for it, or it is
-/// `cancel`, which is answered where it is taken; and whatever is offered, each command that its flags allow is served.
+/// `cancel`, which is answered where it is taken; and whatever is offered, each command that its flags allow is served, or
+/// whoever opened the adapter answers it, which may be just what is never served.
 pub fn offers_are_served()
     ensures usual { OffersAreServed }
     ensures each { EachOfferIsServed }
+    ensures opened { OpenedIsUnserved }
 {}
 
 /// A served request that succeeds has a body just where the row of its command says so, whatever the debuggee shows and
@@ -70,13 +73,13 @@ pub fn refusals_change_nothing()
     ensures { RefusalsChangeNothing }
 {}
 
-/// Before it is served, a request is refused with the first failure, in the one order that the failures have, whose test
+/// Before it is served, a request that is handled is refused with the first failure, in the one order that the failures have, whose test
 /// holds, and passes where none does.
 pub fn refusals_come_in_order()
     ensures { RefusalsComeInOrder }
 {}
 
-/// Within its limits, a session answers a request that is handled with the first failure, in the one order that the failures
+/// Within its limits, a session answers a request that is handled, as each is whose command is not opened, with the first failure, in the one order that the failures
 /// have, whose test holds, and does nothing else. Where none holds the debuggee is asked just what the effect asks, and the
 /// request succeeds or is parked; `launch`, `attach`, a resumption, and `pause` while it runs, fail as `debuggee`, and nothing
 /// else is done, where the debuggee refuses. Where a terminal is asked for first, the debuggee is asked nothing, and just one
@@ -96,4 +99,15 @@ pub fn each_answer_gives_live()
 /// Exited.
 pub fn each_step_keeps_state()
     ensures { EachStepKeepsState }
+{}
+
+/// A request whose command was opened is lent in its turn, or refused; each other one is handled as it was. What is lent stays so
+/// until whoever holds the adapter answers it, or a `cancel` that names it, or `disconnect`: these two `cancelled`.
+pub fn opened_commands_are_lent()
+    ensures { OpenedCommandsAreLent }
+{}
+
+/// Only what was opened is lent, and of the places for requests two never are. So with nothing opened nothing is lent.
+pub fn lending_stays_well()
+    ensures { LendingStaysWell }
 {}

@@ -1,5 +1,5 @@
 -- An event that is told by its name: why it is not, and what is appended where it is.
-use Rattle.std.proofs.Common.{◌≡◌, ℕ, List, ◌++◌, Bool, true, false, Option, Some, None, Result, Ok, Err, IsTrue, OnOk, refl, ap, ◌∙◌}
+use Rattle.std.proofs.Common.{◌≡◌, ℕ, List, ◌++◌, Bool, true, false, Option, Some, None, Result, Ok, Err, IsTrue, OnOk, ap, ◌∙◌}
 use Rattle.std.specs.Prelude.{if◌then◌else◌, not, is_ok}
 use Rattle.serde_json.specs.Data.{Data}
 use Rattle.dap_plan.specs.Carried.{Goes}

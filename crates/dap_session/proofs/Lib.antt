@@ -9,3 +9,4 @@ pub mod TakingRequests
 pub mod Disconnects
 pub mod Deciding
 pub mod EmitFaults
+pub mod RespondFaults

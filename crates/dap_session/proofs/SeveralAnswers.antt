@@ -1,13 +1,14 @@
 -- Answers to several kept requests of a table.
-use Rattle.std.proofs.Common.{◌≡◌, ℕ, ◌+◌, List, [], ◌∷◌, ◌++◌, Bool, true, false, length, refl, sym, ap, ◌∙◌, subst, append_assoc, arith, filter, true≢false}
+use Rattle.std.proofs.Common.{◌≡◌, ℕ, ◌+◌, List, [], ◌∷◌, Bool, true, false, length, refl, sym, ap, ◌∙◌, arith, filter}
 use Rattle.std.specs.Prelude.{◌==◌, ◌||◌, ◌&&◌, not, if◌then◌else◌, map}
 use Rattle.std.specs.List.{list_all, list_any}
 use Rattle.std.proofs.lemmas.Bool.Decides.{nat_tests}
-use Rattle.std.proofs.lemmas.List.Folds.{list_any-append}
-use Rattle.dap_tables.specs.Outstanding.{Kept, entries, without, contains_seq, is_parked, parked_ones, HasDistinctSeqs}
+use Rattle.dap_tables.specs.Outstanding.{Kept, entries, without, contains_seq, is_parked, HasDistinctSeqs}
 use Rattle.dap_tables.specs.declared.entry.Entry.{Entry}
 use Rattle.dap_plan.specs.Handling.{answer_each}
-use Rattle.dap_plan.proofs.Kept.{all-without, IsApart, apart, false-left, false-right, eqb-self, none-parked}
+use Rattle.dap_outbox.specs.Waiting.{may_be_lent, waits_to_start, starting_ones, is_starting_in}
+use Rattle.dap_outbox.proofs.WaitingLemmas.{TellsMarks, tells-marks, starting-entries}
+use Rattle.dap_plan.proofs.Kept.{all-without, false-left, false-right}
 use Rattle.dap_outbox.specs.Several.{answer_where}
 use Rattle.dap_outbox.specs.Draft.{Answer, Draft, reply}
 
@@ -18,7 +19,7 @@ answers-cons : (b : Bool) (answer : Answer) (k : Kept) (xs : List Entry) (ks : L
 answers-cons true answer k xs ks e = ap (λ (ds : List Draft). reply k.entry answer ∷ ds) e
 answers-cons false answer k xs ks e = e
 
-pub answers-kept : (except : ℕ) (answer : Answer) (kept : List Kept) → answer_where (λ seq. not (seq == except)) answer (entries kept) ≡ answer_each answer (without except kept)
+pub answers-kept : (except : ℕ) (answer : Answer) (kept : List Kept) → answer_where (λ r. not (r.seq == except)) answer (entries kept) ≡ answer_each answer (without except kept)
 answers-kept except answer [] = refl
 answers-kept except answer (k ∷ kept) = answers-cons (not (k.entry.seq == except)) answer k (filter (λ (r : Entry). not (r.seq == except)) (entries kept)) (without except kept) (answers-kept except answer kept)
 
@@ -30,76 +31,49 @@ pub others-kept : (except : ℕ) (kept : List Kept) → length (filter (λ (r : 
 others-kept except [] = refl
 others-kept except (k ∷ kept) = length-cons (not (k.entry.seq == except)) k (filter (λ (r : Entry). not (r.seq == except)) (entries kept)) (without except kept) (others-kept except kept)
 
--- ---- those that are parked
+-- ---- those that wait for the debuggee to start
 
--- a test tells the marks of these requests
-abbrev TellsMarks : (ℕ → Bool) → List Kept → Type 0
-TellsMarks passes [] = Unit {0}
-TellsMarks passes (k ∷ ks) = (passes k.entry.seq ≡ k.parked) × TellsMarks passes ks
+answers-entries : (answer : Answer) (ks : List Kept) → map (λ (r : Entry). reply r answer) (entries ks) ≡ answer_each answer ks
+answers-entries answer [] = refl
+answers-entries answer (k ∷ ks) = ap (λ (ds : List Draft). reply k.entry answer ∷ ds) (answers-entries answer ks)
 
-parked-where : (passes : ℕ → Bool) (answer : Answer) (ks : List Kept) → TellsMarks passes ks → answer_where passes answer (entries ks) ≡ answer_each answer (parked_ones ks)
-parked-where passes answer [] t = refl
-parked-where passes answer (k ∷ ks) t = rw t.0 (answers-cons k.parked answer k (filter (λ (r : Entry). passes r.seq) (entries ks)) (parked_ones ks) (parked-where passes answer ks t.1))
+length-entries : (ks : List Kept) → length (entries ks) ≡ length ks
+length-entries [] = refl
+length-entries (k ∷ ks) = let rest = length-entries ks in omega arith
 
-length-parked : (passes : ℕ → Bool) (ks : List Kept) → TellsMarks passes ks → length (filter (λ (r : Entry). passes r.seq) (entries ks)) ≡ length (parked_ones ks)
-length-parked passes [] t = refl
-length-parked passes (k ∷ ks) t = rw t.0 (length-cons k.parked k (filter (λ (r : Entry). passes r.seq) (entries ks)) (parked_ones ks) (length-parked passes ks t.1))
+all-entries : (test : Entry → Bool) (ks : List Kept) → list_all test (entries ks) ≡ list_all (λ (k : Kept). test k.entry) ks
+all-entries test [] = refl
+all-entries test (k ∷ ks) = ap (λ (b : Bool). test k.entry && b) (all-entries test ks)
 
-or-none : (b : Bool) → (b || false) ≡ b
-or-none true = refl
-or-none false = refl
+pub answers-starting : (answer : Answer) (kept : List Kept) → HasDistinctSeqs kept → answer_where (λ r. is_starting_in kept r) answer (entries kept) ≡ answer_each answer (starting_ones kept)
+answers-starting answer kept d = ap (map (λ (r : Entry). reply r answer)) (starting-entries kept d) ∙ answers-entries answer (starting_ones kept)
 
-parked-here : (before : List Kept) (k : Kept) (after : List Kept) → IsApart before k after → is_parked k.entry.seq (before ++ k ∷ after) ≡ k.parked
-parked-here before k after a =
-    list_any-append (λ (x : Kept). (x.entry.seq == k.entry.seq) && x.parked) before (k ∷ after)
-    ∙ rw (none-parked k.entry.seq before a.not_before, none-parked k.entry.seq after a.not_after, eqb-self k.entry.seq) (or-none k.parked)
+pub count-starting : (kept : List Kept) → HasDistinctSeqs kept → length (filter (λ (r : Entry). is_starting_in kept r) (entries kept)) ≡ length (starting_ones kept)
+count-starting kept d = ap (λ (xs : List Entry). length xs) (starting-entries kept d) ∙ length-entries (starting_ones kept)
 
-tells-from : (before after : List Kept) → HasDistinctSeqs (before ++ after) → TellsMarks (λ seq. is_parked seq (before ++ after)) after
-tells-from before [] d = tt
-tells-from before (k ∷ after) d =
-    let moved : (before ++ k ∷ []) ++ after ≡ before ++ k ∷ after = append_assoc before (k ∷ []) after in
-    let rest = tells-from (before ++ k ∷ []) after (subst (λ (xs : List Kept). HasDistinctSeqs xs) (sym moved) d) in
-    (parked-here before k after (apart before k after d), subst (λ (xs : List Kept). TellsMarks (λ seq. is_parked seq xs) after) moved rest)
+-- each of them passes a test
+pub all-starting : (test : Entry → Bool) (kept : List Kept) → HasDistinctSeqs kept → list_all test (filter (λ (r : Entry). is_starting_in kept r) (entries kept)) ≡ list_all (λ (k : Kept). test k.entry) (starting_ones kept)
+all-starting test kept d = ap (λ (xs : List Entry). list_all test xs) (starting-entries kept d) ∙ all-entries test (starting_ones kept)
 
-pub answers-parked : (answer : Answer) (kept : List Kept) → HasDistinctSeqs kept → answer_where (λ seq. is_parked seq kept) answer (entries kept) ≡ answer_each answer (parked_ones kept)
-answers-parked answer kept d = parked-where (λ seq. is_parked seq kept) answer kept (tells-from [] kept d)
-
-pub count-parked : (kept : List Kept) → HasDistinctSeqs kept → length (filter (λ (r : Entry). is_parked r.seq kept) (entries kept)) ≡ length (parked_ones kept)
-count-parked kept d = length-parked (λ seq. is_parked seq kept) kept (tells-from [] kept d)
-
-all-cons : (b : Bool) (test : Entry → Bool) (k : Kept) (xs : List Entry) (ks : List Kept) → list_all test xs ≡ list_all (λ (x : Kept). test x.entry) ks
-    → list_all test (if b then k.entry ∷ xs else xs) ≡ list_all (λ (x : Kept). test x.entry) (if b then k ∷ ks else ks)
-all-cons true test k xs ks e = ap (λ (b : Bool). test k.entry && b) e
-all-cons false test k xs ks e = e
-
-all-marked : (passes : ℕ → Bool) (test : Entry → Bool) (ks : List Kept) → TellsMarks passes ks → list_all test (filter (λ (r : Entry). passes r.seq) (entries ks)) ≡ list_all (λ (k : Kept). test k.entry) (parked_ones ks)
-all-marked passes test [] t = refl
-all-marked passes test (k ∷ ks) t = rw t.0 (all-cons k.parked test k (filter (λ (r : Entry). passes r.seq) (entries ks)) (parked_ones ks) (all-marked passes test ks t.1))
-
--- each of those that are parked passes a test
-pub all-parked : (test : Entry → Bool) (kept : List Kept) → HasDistinctSeqs kept → list_all test (filter (λ (r : Entry). is_parked r.seq kept) (entries kept)) ≡ list_all (λ (k : Kept). test k.entry) (parked_ones kept)
-all-parked test kept d = all-marked (λ seq. is_parked seq kept) test kept (tells-from [] kept d)
-
-any-marked : (passes : ℕ → Bool) (test : Entry → Bool) (ks : List Kept) → TellsMarks passes ks → list_any (λ (r : Entry). passes r.seq && test r) (entries ks) ≡ list_any (λ (k : Kept). k.parked && test k.entry) ks
-any-marked passes test [] t = refl
-any-marked passes test (k ∷ ks) t = rw t.0 (ap (λ (b : Bool). (k.parked && test k.entry) || b) (any-marked passes test ks t.1))
+any-marked : (all : List Kept) (test : Entry → Bool) (ks : List Kept) → TellsMarks all ks → list_any (λ (r : Entry). is_parked r.seq all && test r) (entries ks) ≡ list_any (λ (k : Kept). k.parked && test k.entry) ks
+any-marked all test [] t = refl
+any-marked all test (k ∷ ks) t = rw t.0 (ap (λ (b : Bool). (k.parked && test k.entry) || b) (any-marked all test ks t.1))
 
 -- one of those that are parked passes a test
 pub any-parked : (test : Entry → Bool) (kept : List Kept) → HasDistinctSeqs kept → list_any (λ (r : Entry). is_parked r.seq kept && test r) (entries kept) ≡ list_any (λ (k : Kept). k.parked && test k.entry) kept
-any-parked test kept d = any-marked (λ seq. is_parked seq kept) test kept (tells-from [] kept d)
+any-parked test kept d = any-marked kept test kept (tells-marks kept d)
 
-parked-drop : (b p : Bool) (k : Kept) (ks : List Kept) → (b && p) ≡ false → k.parked ≡ p → parked_ones (if not b then k ∷ ks else ks) ≡ (if p then k ∷ parked_ones ks else parked_ones ks)
-parked-drop true true k ks h e = absurd (true≢false h)
-parked-drop true false k ks h e = refl
-parked-drop false p k ks h e = rw e refl
+without-cases : (b : Bool) (k : Kept) (ks : List Kept) → (b && k.parked) ≡ false → starting_ones (if not b then k ∷ ks else ks) ≡ starting_ones (k ∷ ks)
+without-cases false k ks h = refl
+without-cases true k ks h = ap (λ (p : Bool). if p && not (may_be_lent k.entry) then k ∷ starting_ones ks else starting_ones ks) (sym h)
 
 -- a request that is not parked is none of those
-pub parked-without : (seq : ℕ) (kept : List Kept) → is_parked seq kept ≡ false → parked_ones (without seq kept) ≡ parked_ones kept
-parked-without seq [] h = refl
-parked-without seq (k ∷ kept) h =
+pub starting-without : (seq : ℕ) (kept : List Kept) → is_parked seq kept ≡ false → starting_ones (without seq kept) ≡ starting_ones kept
+starting-without seq [] h = refl
+starting-without seq (k ∷ kept) h =
     let here = false-left ((k.entry.seq == seq) && k.parked) (is_parked seq kept) h in
-    let later = parked-without seq kept (false-right ((k.entry.seq == seq) && k.parked) (is_parked seq kept) h) in
-    parked-drop (k.entry.seq == seq) k.parked k (without seq kept) here refl ∙ rw later refl
+    let later = starting-without seq kept (false-right ((k.entry.seq == seq) && k.parked) (is_parked seq kept) h) in
+    without-cases (k.entry.seq == seq) k (without seq kept) here ∙ ap (λ (xs : List Kept). if waits_to_start k then k ∷ xs else xs) later
 
 -- ---- how many
 

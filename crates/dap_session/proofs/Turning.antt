@@ -9,7 +9,7 @@ use Rattle.dap_plan.specs.declared.fault.AdapterFault.TheVariants.{SeqExhausted,
 use Rattle.dap_plan.specs.declared.fault.AdapterFault.{AdapterFault}
 use Rattle.dap_plan.specs.Carried.{Goes}
 use Rattle.dap_plan.specs.SessionState.{SessionState, IsUnasked, IsRefusedFor, NotTurned, HasTurned, Carries}
-use Rattle.dap_plan.specs.Handling.{plan, some_plan, turn_of}
+use Rattle.dap_plan.specs.Handling.{plan_of_turn, some_plan, turn_of}
 use Rattle.dap_plan.specs.Plan.{messages_due, plan_within_numbers}
 use Rattle.dap_plan.specs.Session.{Session, oldest}
 use Rattle.dap_plan.proofs.Kept.{IsKept, kept-found, apart, eqb-self, false-left, false-right}
@@ -41,29 +41,29 @@ within a b h = grind (arith, nat_tests)
 pub beyond : (a b : ℕ) → b < a → nat_le a b ≡ false
 beyond a b h = grind (arith, nat_tests)
 
-turn-within : (view : Shown) (s : Session) (o : Option Kept) (r : Entry) → option_map (λ (k : Kept). k.entry) o ≡ Some r → s.used + messages_due (plan view s r) ≤ s.limits.seq → turn_of view s o ≡ Ok (Some (plan view s r))
+turn-within : (view : Shown) (s : Session) (o : Option Kept) (r : Entry) → option_map (λ (k : Kept). k.entry) o ≡ Some r → s.used + messages_due (plan_of_turn view s r) ≤ s.limits.seq → turn_of view s o ≡ Ok (Some (plan_of_turn view s r))
 turn-within view s None r e h = cc
 turn-within view s (Some k) r e h =
     let same : k.entry ≡ r = cc in
-    rw same (rw (within (s.used + messages_due (plan view s r)) s.limits.seq h) refl)
+    rw same (rw (within (s.used + messages_due (plan_of_turn view s r)) s.limits.seq h) refl)
 
-turn-beyond : (view : Shown) (s : Session) (o : Option Kept) (r : Entry) → option_map (λ (k : Kept). k.entry) o ≡ Some r → s.limits.seq < s.used + messages_due (plan view s r) → turn_of view s o ≡ Err SeqExhausted
+turn-beyond : (view : Shown) (s : Session) (o : Option Kept) (r : Entry) → option_map (λ (k : Kept). k.entry) o ≡ Some r → s.limits.seq < s.used + messages_due (plan_of_turn view s r) → turn_of view s o ≡ Err SeqExhausted
 turn-beyond view s None r e h = cc
 turn-beyond view s (Some k) r e h =
     let same : k.entry ≡ r = cc in
-    rw same (rw (beyond (s.used + messages_due (plan view s r)) s.limits.seq h) refl)
+    rw same (rw (beyond (s.used + messages_due (plan_of_turn view s r)) s.limits.seq h) refl)
 
-pub turned : {D : Type 0} (shown : D → Shown) (follows : Goes D) (old new : SessionState D) (bytes : List ℕ) (r : Entry) → Some r ≡ option_map (λ (k : Kept). k.entry) (oldest old.session.kept) → old.session.used + messages_due (plan (shown old.debuggee) old.session r) ≤ old.session.limits.seq
-    → Carries follows (plan (shown old.debuggee) old.session r) old new bytes → HasTurned shown follows old new bytes
-turned shown follows old new bytes r e h c = record { plan = plan (shown old.debuggee) old.session r; is = turn-within (shown old.debuggee) old.session (oldest old.session.kept) r (sym e) h; carries = c }
+pub turned : {D : Type 0} (shown : D → Shown) (follows : Goes D) (old new : SessionState D) (bytes : List ℕ) (r : Entry) → Some r ≡ option_map (λ (k : Kept). k.entry) (oldest old.session.kept) → old.session.used + messages_due (plan_of_turn (shown old.debuggee) old.session r) ≤ old.session.limits.seq
+    → Carries follows (plan_of_turn (shown old.debuggee) old.session r) old new bytes → HasTurned shown follows old new bytes
+turned shown follows old new bytes r e h c = record { plan = plan_of_turn (shown old.debuggee) old.session r; is = turn-within (shown old.debuggee) old.session (oldest old.session.kept) r (sym e) h; carries = c }
 
-unasked-turn : {D : Type 0} (view : Shown) (s : Session) (o : Option Kept) (r : Entry) (v w : D) → option_map (λ (k : Kept). k.entry) o ≡ Some r → IsUnasked (some_plan (plan_within_numbers s (plan view s r))) v w → IsUnasked (turn_of view s o) v w
+unasked-turn : {D : Type 0} (view : Shown) (s : Session) (o : Option Kept) (r : Entry) (v w : D) → option_map (λ (k : Kept). k.entry) o ≡ Some r → IsUnasked (some_plan (plan_within_numbers s (plan_of_turn view s r))) v w → IsUnasked (turn_of view s o) v w
 unasked-turn view s None r v w e h = cc
 unasked-turn view s (Some k) r v w e h =
     let same : k.entry ≡ r = cc in
     rw same h
 
-pub not_turned : {D : Type 0} (shown : D → Shown) (fault : AdapterFault) (old new : SessionState D) (r : Entry) → Some r ≡ option_map (λ (k : Kept). k.entry) (oldest old.session.kept) → IsRefusedFor fault (plan (shown old.debuggee) old.session r) old new → NotTurned shown fault old new
+pub not_turned : {D : Type 0} (shown : D → Shown) (fault : AdapterFault) (old new : SessionState D) (r : Entry) → Some r ≡ option_map (λ (k : Kept). k.entry) (oldest old.session.kept) → IsRefusedFor fault (plan_of_turn (shown old.debuggee) old.session r) old new → NotTurned shown fault old new
 not_turned shown SeqExhausted old new r e h = (turn-beyond (shown old.debuggee) old.session (oldest old.session.kept) r (sym e) h.0, h.1)
 not_turned shown OutOfMemory old new r e h = unasked-turn (shown old.debuggee) old.session (oldest old.session.kept) r old.debuggee new.debuggee (sym e) h
 not_turned shown _ old new r e h = h

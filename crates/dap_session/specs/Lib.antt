@@ -2,3 +2,4 @@ pub mod PrivateQuerying
 pub mod SessionCalls
 pub mod PrivateReplies
 pub mod PrivateEmitting
+pub mod PrivateResponding

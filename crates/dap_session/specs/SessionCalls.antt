@@ -1,6 +1,6 @@
 -- What a call of a session does: to the session and its debuggee, and to the bytes that are appended.
 -- Specification, "Request", "Response", "Event".
-use Rattle.std.specs.Prelude.{◌≡◌, ℕ, ◌<◌, true, false, Bool, IsTrue, IsOk, OnOk, Result, Vec}
+use Rattle.std.specs.Prelude.{◌≡◌, ℕ, List, ◌<◌, true, false, Bool, IsTrue, IsOk, OnOk, Result, Vec}
 use Rattle.dap_command.specs.Offer.{usual_offer}
 use Rattle.dap_command.specs.declared.offer.Offer.{Offer}
 use Rattle.dap_debuggee.specs.Shown.{Shown}
@@ -8,6 +8,9 @@ use Rattle.dap_envelope.specs.declared.message.Message.{Message}
 use Rattle.dap_frame.specs.Settings.{Settings}
 use Rattle.dap_plan.specs.Carried.{Goes}
 use Rattle.dap_plan.specs.Handling.{some_plan}
+use Rattle.dap_message.specs.declared.outcome.Outcome.{Outcome}
+use Rattle.dap_tables.specs.declared.entry.Entry.{Entry}
+use Rattle.dap_plan.specs.Responding.{IsLent, responds}
 use Rattle.dap_plan.specs.Polling.{has_debuggee, polls}
 use Rattle.dap_plan.specs.Session.{opened_session, to_handle}
 use Rattle.dap_plan.specs.SessionState.{SessionState, AppendsSome, Carries, HasTaken, HasTurned, IsIdle, IsRefusedPoll, IsUnasked, NotTaken}
@@ -75,3 +78,12 @@ RefusesPoll follows old new fault = IsRefusedPoll follows fault (polls old.sessi
 -- where there is no debuggee nothing happens
 abbrev pub PollsNobody : {D A B E : Type 0} → SessionState D → SessionState D → Vec ℕ A → Vec ℕ A → Result B E → Type 0
 PollsNobody old new before after result = has_debuggee old.session.phase ≡ false → (after.items ≡ before.items) × (new ≡ old) × IsOk result
+
+-- ---- a lent request
+
+-- the one with this number was answered so, and these bytes say so
+pub record HasResponded {D : Type 0} (follows : Goes D) (seq : ℕ) (o : Outcome) (old new : SessionState D) (bytes : List ℕ) : Type 0 where
+  pub entry : Entry
+  pub number : entry.seq ≡ seq
+  pub lent : IsLent old.session entry
+  pub carries : Carries follows (responds entry o old.session) old new bytes

@@ -5,7 +5,8 @@
 ghost use Rattle.std.specs.Prelude.{◌≡◌, ◌+◌, ◌≤◌, ◌&&◌, [], ◌∷◌, length, IfOk, IfErr, IsErrOf, OnOk, OnErr, IsTrue, Ok, Some, true, false};
 ghost use Rattle.std.specs.List.{list_any};
 ghost use Rattle.dap_command.specs.Command.{command_named};
-ghost use Rattle.dap_tables.specs.Outstanding.{contains_seq, is_parked, parked_ones};
+ghost use Rattle.dap_tables.specs.Outstanding.{contains_seq, is_parked};
+ghost use Rattle.dap_outbox.specs.Waiting.{starting_ones};
 ghost use Rattle.dap_debuggee.specs.Shown.{to_start};
 ghost use Rattle.dap_plan.specs.Handling.{after_asking, after_asking_parked, effect_of, is_launch, names_terminal, parked_wants_terminal, some_plan, wants_terminal};
 ghost use Rattle.dap_plan.specs.Plan.{asking, messages_due};
@@ -26,7 +27,7 @@ use dap_command::Command;
 use dap_debuggee::Debuggee;
 use dap_decision::{Effect, Phase};
 use dap_json::{Text, Tree, field};
-use dap_outbox::{Answer, Outbox};
+use dap_outbox::{Answer, Outbox, starting_count};
 use dap_plan::AdapterFault;
 use dap_query::Options;
 use dap_tables::{Entry, InOrder, Outstanding};
@@ -202,7 +203,7 @@ impl<D: Debuggee + Drop> Session<D> {
 
     // ---- the response
 
-    /// What is parked is answered.
+    /// What waits for the debuggee to start is answered.
     fn terminal_responses(
         &self,
         alloc: Global,
@@ -210,7 +211,7 @@ impl<D: Debuggee + Drop> Session<D> {
         reply: &ActReply,
     ) -> Result<(), AllocError>
         requires ready { IsReady out.old (numbers_of self.now.session) }
-        requires room { self.now.session.used + length (parked_ones self.now.session.kept) ≤ self.now.session.limits.seq }
+        requires room { self.now.session.used + length (starting_ones self.now.session.kept) ≤ self.now.session.limits.seq }
         ensures last { OnOk result (out.new.numbers.last ≡ self.now.session.limits.seq) }
         ensures holds { OnOk result (Holds out.new self.now.session.limits.body self.now.session.used (after_terminal self.now.session (reply_of reply.now)).drafts) }
         ensures before { out.new.before ≡ out.old.before }
@@ -227,7 +228,7 @@ impl<D: Debuggee + Drop> Session<D> {
         reply: &ActReply,
     ) -> Result<(), AllocError>
         requires ready { IsReady out.old (numbers_of self.old.session) }
-        requires room { self.old.session.used + length (parked_ones self.old.session.kept) ≤ self.old.session.limits.seq }
+        requires room { self.old.session.used + length (starting_ones self.old.session.kept) ≤ self.old.session.limits.seq }
         ensures made { OnOk result (MadeBy (after_terminal self.old.session (reply_of reply.now)) self.old.session self.new.session out.new.bytes) }
         ensures debuggee { self.new.debuggee ≡ self.old.debuggee }
         ensures err { OnErr result (self.new ≡ self.old) }
@@ -242,7 +243,7 @@ impl<D: Debuggee + Drop> Session<D> {
     /// Starts the debuggee in the terminal that there is.
     fn start_in_terminal(&mut self, alloc: Global, out: &mut Outbox) -> Result<(), AllocError>
         requires ready { IsReady out.old (numbers_of self.old.session) }
-        requires room { self.old.session.used + length (parked_ones self.old.session.kept) ≤ self.old.session.limits.seq }
+        requires room { self.old.session.used + length (starting_ones self.old.session.kept) ≤ self.old.session.limits.seq }
         ensures carries { OnOk result (Carries D.follows (asking to_start (after_terminal self.old.session)) self.old self.new out.new.bytes) }
         ensures err { OnErr result (self.new.session ≡ self.old.session) }
         ensures before { out.new.before ≡ out.old.before }
@@ -258,7 +259,7 @@ impl<D: Debuggee + Drop> Session<D> {
         success: bool,
     ) -> Result<(), AllocError>
         requires ready { IsReady out.old (numbers_of self.old.session) }
-        requires room { self.old.session.used + length (parked_ones self.old.session.kept) ≤ self.old.session.limits.seq }
+        requires room { self.old.session.used + length (starting_ones self.old.session.kept) ≤ self.old.session.limits.seq }
         ensures carries { OnOk result (Carries D.follows (plan_of_terminal success self.old.session) self.old self.new out.new.bytes) }
         ensures unasked { OnErr result (IsUnasked (Ok (Some (plan_of_terminal success self.old.session))) self.old.debuggee self.new.debuggee) }
         ensures err { OnErr result (self.new.session ≡ self.old.session) }
@@ -286,7 +287,7 @@ impl<D: Debuggee + Drop> Session<D> {
         ensures before { out.new.before ≡ out.old.before }
     {
         if is_waiting(self.phase) {
-            self.room(self.kept.parked() as u64)?;
+            self.room(starting_count(&self.kept) as u64)?;
             return Ok(self.take_terminal(alloc, out, success)?);
         }
         let _ = self.numbers();

@@ -22,17 +22,7 @@ use std::alloc::{AllocError, Global};
 fn tells_events(phase: Phase) -> bool
     ensures { result ≡ tells_events phase }
 {
-    match phase {
-        Phase::Fresh => false,
-        Phase::Ended => false,
-        Phase::Ready => true,
-        Phase::Configured => true,
-        Phase::Parked => true,
-        Phase::Asked => true,
-        Phase::Running => true,
-        Phase::Stopped => true,
-        Phase::Exited => true,
-    }
+    !matches!(phase, Phase::Fresh | Phase::Ended)
 }
 
 /// Whether an event says what a client may do next.
@@ -49,8 +39,8 @@ fn is_reserved(event: &str) -> bool
 
 impl<D: Debuggee + Drop> Session<D> {
     /// Why an event is not told, of what takes no memory.
-    fn early_emit_fault(&self, closed: bool, event: &str, _body: &Option<Tree>) -> Option<EmitFault>
-        ensures { result ≡ first_emit_fault early_emit_faults event.now _body.now closed self.now.session }
+    fn early_emit_fault(&self, closed: bool, event: &str) -> Option<EmitFault>
+        ensures { result ≡ first_emit_fault early_emit_faults event.now None closed self.now.session }
     {
         if closed {
             return Some(EmitFault::Closed);
@@ -157,7 +147,7 @@ impl<D: Debuggee + Drop> Session<D> {
         ensures refused { IfErr result (λ fault. IsWhyNotEmitted fault event.now body.now closed self.old.session) }
         ensures err { OnErr result ((self.new ≡ self.old) × (out.new.items ≡ out.old.items)) }
     {
-        if let Some(fault) = self.early_emit_fault(closed, event, body) {
+        if let Some(fault) = self.early_emit_fault(closed, event) {
             return Err(fault);
         }
         let mut outbox = self.outbox_behind(alloc, out);

@@ -5,7 +5,7 @@ ghost use Rattle.dap_outbox.specs.Outbox.{IsReady};
 ghost use Rattle.dap_tables.specs.Outstanding.{contains_seq, is_parked};
 ghost use Rattle.dap_plan.specs.SessionState.{Carries, IsRefusedFor, plan_of_decision, IsIdle, HasTurned, NotTurned};
 ghost use Rattle.dap_plan.specs.Session.{oldest, numbers_of};
-ghost use Rattle.dap_plan.specs.Handling.{plan, plan_for};
+ghost use Rattle.dap_plan.specs.Handling.{plan, plan_for, plan_of_turn};
 ghost use Rattle.dap_plan.specs.Plan.{messages_due};
 ghost use Rattle.dap_plan.specs.Changing.{IsSuitable, Suits};
 
@@ -146,7 +146,8 @@ impl<D: Debuggee + Drop> Session<D> {
         }
     }
 
-    fn handle_copy(
+    /// Handles a request that is kept, or lends it where its command is opened.
+    fn handle_any(
         &mut self,
         alloc: Global,
         out: &mut Outbox,
@@ -155,17 +156,20 @@ impl<D: Debuggee + Drop> Session<D> {
         requires ready { IsReady out.old (numbers_of self.old.session) }
         requires kept { IsTrue (contains_seq request.seq self.old.session.kept) }
         requires unparked { is_parked request.seq self.old.session.kept ≡ false }
-        ensures carries { OnOk result (Carries D.follows (plan (D.shown self.old.debuggee) self.old.session request) self.old self.new out.new.bytes) }
-        ensures within { OnOk result (self.old.session.used + messages_due (plan (D.shown self.old.debuggee) self.old.session request) ≤ self.old.session.limits.seq) }
-        ensures refused { IfErr result (λ fault. IsRefusedFor fault (plan (D.shown self.old.debuggee) self.old.session request) self.old self.new) }
+        ensures carries { OnOk result (Carries D.follows (plan_of_turn (D.shown self.old.debuggee) self.old.session request) self.old self.new out.new.bytes) }
+        ensures within { OnOk result (self.old.session.used + messages_due (plan_of_turn (D.shown self.old.debuggee) self.old.session request) ≤ self.old.session.limits.seq) }
+        ensures refused { IfErr result (λ fault. IsRefusedFor fault (plan_of_turn (D.shown self.old.debuggee) self.old.session request) self.old self.new) }
         ensures err { OnErr result (self.new.session ≡ self.old.session) }
         ensures before { out.new.before ≡ out.old.before }
     {
-        self.handle(alloc, out, &request)
+        match self.opened_in(&request) {
+            None => self.handle(alloc, out, &request),
+            Some(in_stops) => self.lend(alloc, out, &request, in_stops),
+        }
     }
 
     /// Answers a request with a failure.
-    fn refuse(
+    pub(crate) fn refuse(
         &mut self,
         alloc: Global,
         out: &mut Outbox,
@@ -215,7 +219,7 @@ impl<D: Debuggee + Drop> Session<D> {
         match self.next_request() {
             Err(_) => Err(AdapterFault::OutOfMemory),
             Ok(None) => Ok(false),
-            Ok(Some(request)) => match self.handle_copy(alloc, out, request) {
+            Ok(Some(request)) => match self.handle_any(alloc, out, request) {
                 Err(fault) => Err(fault),
                 Ok(()) => Ok(true),
             },

@@ -19,7 +19,7 @@ use dap_plan::AdapterFault;
 use std::alloc::{AllocError, Global};
 
 /// Whether there is a debuggee to ask.
-fn has_debuggee(phase: Phase) -> bool
+pub(crate) fn has_debuggee(phase: Phase) -> bool
     ensures { result ≡ has_debuggee phase }
 {
     match phase {

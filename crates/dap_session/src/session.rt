@@ -3,7 +3,8 @@ ghost use Rattle.dap_session.specs.SessionCalls.{fresh_state, opened_state, over
 ghost use Rattle.std.specs.Prelude.{◌≡◌, ◌+◌, ◌≤◌, ◌<◌, [], ◌∷◌, ◌++◌, length, IfOk, IsTrue, true, false, not, nat_lt, None};
 ghost use Rattle.std.specs.Option.{option_copied};
 ghost use Rattle.dap_outbox.specs.Outbox.{IsReady};
-ghost use Rattle.dap_tables.specs.Outstanding.{without, with_mark, contains_seq, kept_unparked, unparked_ones, IsOrderlyRequests};
+ghost use Rattle.dap_tables.specs.Outstanding.{entries, without, with_mark, contains_seq, kept_unparked, IsOrderlyRequests};
+ghost use Rattle.dap_outbox.specs.Waiting.{lent_ones, not_starting_ones};
 ghost use Rattle.dap_tables.specs.References.{target_of};
 ghost use Rattle.dap_tables.specs.SourceMap.{count, set_of};
 ghost use Rattle.dap_query.specs.Queries.{object_of};
@@ -17,7 +18,7 @@ use dap_command::{Offer, SourceKey};
 use dap_debuggee::{ActFault, Debuggee, Happening, HasMail, How};
 use dap_decision::Phase;
 use dap_frame::Limits;
-use dap_outbox::Outbox;
+use dap_outbox::{Lent, Outbox, clear_starting, lent_in_order};
 use dap_query::{Options, Queries};
 use dap_tables::{Breakpoints, Entry, Outstanding, PutFault, Seq, Target};
 use std::alloc::{AllocError, Global};
@@ -151,6 +152,13 @@ impl<D: Debuggee + Drop> Session<D> {
         }
     }
 
+    /// The requests that are lent, by arrival: each is answered by [`Session::respond`].
+    pub fn lent(&self) -> Lent<'_>
+        ensures { result ≡ entries (lent_ones self.now.session.kept) }
+    {
+        lent_in_order(&self.kept)
+    }
+
     /// What a live reference names.
     pub fn target(&self, number: u32) -> Option<&Target>
         ensures { option_copied result ≡ target_of self.now.session.references number }
@@ -251,23 +259,23 @@ impl<D: Debuggee + Drop> Session<D> {
         self.numbers = out.numbers();
     }
 
-    /// Ends with those that are parked, and with what was written.
+    /// Ends with those that wait for the debuggee to start, and with what was written.
     pub(crate) fn commit_asked(&mut self, out: &Outbox)
         requires last { out.now.numbers.last ≡ self.old.session.limits.seq }
-        ensures session { self.new ≡ record self.old { session = record self.old.session { kept = unparked_ones self.old.session.kept; asked = None; used = out.now.numbers.used } } }
+        ensures session { self.new ≡ record self.old { session = record self.old.session { kept = not_starting_ones self.old.session.kept; asked = None; used = out.now.numbers.used } } }
     {
-        self.kept.clear_parked();
+        clear_starting(&mut self.kept);
         self.asked = None;
         self.numbers = out.numbers();
     }
 
-    /// Ends with a request and with those that are parked, and with what was written.
+    /// Ends with a request and with those that wait for the debuggee to start, and with what was written.
     pub(crate) fn commit_parked(&mut self, seq: u64, out: &Outbox)
         requires last { out.now.numbers.last ≡ self.old.session.limits.seq }
-        ensures session { self.new ≡ record self.old { session = record self.old.session { kept = unparked_ones (without seq self.old.session.kept); used = out.now.numbers.used } } }
+        ensures session { self.new ≡ record self.old { session = record self.old.session { kept = not_starting_ones (without seq self.old.session.kept); used = out.now.numbers.used } } }
     {
         let _ = self.kept.take(seq);
-        self.kept.clear_parked();
+        clear_starting(&mut self.kept);
         self.numbers = out.numbers();
     }
 

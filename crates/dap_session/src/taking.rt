@@ -21,7 +21,7 @@ use dap_debuggee::Debuggee;
 use dap_decision::{Phase, call_in};
 use dap_envelope::{Kind, Message};
 use dap_json::{Text, Tree};
-use dap_outbox::{Answer, Outbox};
+use dap_outbox::{Answer, Outbox, is_starting_in};
 use dap_plan::AdapterFault;
 use dap_tables::Entry;
 use std::alloc::{AllocError, Global};
@@ -147,12 +147,12 @@ impl<D: Debuggee + Drop> Session<D> {
         ensures before { out.new.before ≡ out.old.before }
     {
         self.begin(out);
-        if self.kept.is_parked(id) {
-            return Ok(false);
-        }
         let Some(named) = self.kept.get(id) else {
             return Ok(false);
         };
+        if is_starting_in(&self.kept, named) {
+            return Ok(false);
+        }
         match self.both_responses(alloc, out, named, request) {
             Ok(()) => Ok(true),
             Err(fault) => Err(fault),
@@ -286,7 +286,7 @@ impl<D: Debuggee + Drop> Session<D> {
 
     /// Takes a message that was delivered: a request is kept, or answered at once. A response that answers no own request is
     /// `Unmatched`, one to another command is `CommandMismatch`. While a terminal is waited for, a success starts the debuggee,
-    /// and a failure fails what is parked; a later one ends the waiting for an answer, and nothing else. An event, and a message
+    /// and a failure fails what waits for that; a later one ends the waiting for an answer, and nothing else. An event, and a message
     /// of another kind, have no effect. What is written is appended to `out`; where it fails, `out` is as it was.
     pub fn take(
         &mut self,

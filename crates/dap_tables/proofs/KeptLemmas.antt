@@ -7,7 +7,7 @@ use Rattle.std.proofs.lemmas.List.Elements.{filter-append}
 use Rattle.std.proofs.lemmas.List.Folds.{list_any-append}
 use Rattle.std.proofs.lemmas.Bool.Decides.{nat_tests}
 use Rattle.dap_tables.specs.declared.entry.Entry.{Entry}
-use Rattle.dap_tables.specs.Outstanding.{Kept, kept_with_mark, entries, contains_seq, entry_with, without, is_parked, with_mark, oldest_unparked, unparked_ones, HasDistinctSeqs, IsOrderlyRequests}
+use Rattle.dap_tables.specs.Outstanding.{Kept, kept_with_mark, entries, contains_seq, entry_with, without, is_parked, with_mark, oldest_unparked, HasDistinctSeqs, IsOrderlyRequests}
 use Rattle.dap_tables.specs.Ors.{or-false, or-left, or-right}
 
 pub eqb-flip : (a b : ℕ) → (a == b) ≡ (b == a)
@@ -241,43 +241,47 @@ is_parked-unpark seq ks = all-kept_with_mark seq false ks ∙ none (contains_seq
     none true = refl
     none false = refl
 
--- ---- parked requests that are given up, the oldest first
+-- ---- requests that pass a test are given up, the oldest first
 
 found-cases : (b c : Bool) (n seq : ℕ) → b ≡ true → n ≡ seq → ((n == seq) || c) ≡ true
 found-cases b c n seq h e = rw (e, eqb-self seq) refl
 
-contains_found : (seq : ℕ) (ks : List Kept) → option_map (λ (x : Kept). x.entry.seq) (find (λ (x : Kept). x.parked) ks) ≡ Some seq → contains_seq seq ks ≡ true
-contains_found seq [] h = cc
-contains_found seq (k ∷ ks) h = by k.parked (contains_found seq ks) h
+contains_found : (p : Kept → Bool) (seq : ℕ) (ks : List Kept) → option_map (λ (x : Kept). x.entry.seq) (find p ks) ≡ Some seq → contains_seq seq ks ≡ true
+contains_found p seq [] h = cc
+contains_found p seq (k ∷ ks) h = by (p k) (contains_found p seq ks) h
   where
-    by : (b : Bool) → (option_map (λ (x : Kept). x.entry.seq) (find (λ (x : Kept). x.parked) ks) ≡ Some seq → contains_seq seq ks ≡ true) → option_map (λ (x : Kept). x.entry.seq) (cond b (Some k) (find (λ (x : Kept). x.parked) ks)) ≡ Some seq → ((k.entry.seq == seq) || contains_seq seq ks) ≡ true
+    by : (b : Bool) → (option_map (λ (x : Kept). x.entry.seq) (find p ks) ≡ Some seq → contains_seq seq ks ≡ true) → option_map (λ (x : Kept). x.entry.seq) (cond b (Some k) (find p ks)) ≡ Some seq → ((k.entry.seq == seq) || contains_seq seq ks) ≡ true
     by true rest e = let same : k.entry.seq ≡ seq = cc in found-cases true (contains_seq seq ks) k.entry.seq seq refl same
     by false rest e = or-true (k.entry.seq == seq) (contains_seq seq ks) (rest e)
 
--- without the oldest that is parked, the others that are not parked stay
-pub unparked_ones-without : (seq : ℕ) (ks : List Kept) → HasDistinctSeqs ks → option_map (λ (x : Kept). x.entry.seq) (find (λ (x : Kept). x.parked) ks) ≡ Some seq → unparked_ones (without seq ks) ≡ unparked_ones ks
-unparked_ones-without seq [] d h = refl
-unparked_ones-without seq (k ∷ ks) d h = by k.parked refl (unparked_ones-without seq ks d.1) h
+-- those that do not pass
+abbrev pub rejected : (Kept → Bool) → List Kept → List Kept
+rejected p ks = filter (λ k. not (p k)) ks
+
+-- without the oldest that passes, they stay
+pub rejected-without : (p : Kept → Bool) (seq : ℕ) (ks : List Kept) → HasDistinctSeqs ks → option_map (λ (x : Kept). x.entry.seq) (find p ks) ≡ Some seq → rejected p (without seq ks) ≡ rejected p ks
+rejected-without p seq [] d h = refl
+rejected-without p seq (k ∷ ks) d h = by (p k) refl (rejected-without p seq ks d.1) h
   where
-    by : (b : Bool) → k.parked ≡ b → (option_map (λ (x : Kept). x.entry.seq) (find (λ (x : Kept). x.parked) ks) ≡ Some seq → unparked_ones (without seq ks) ≡ unparked_ones ks) → option_map (λ (x : Kept). x.entry.seq) (cond b (Some k) (find (λ (x : Kept). x.parked) ks)) ≡ Some seq → unparked_ones (cond (not (k.entry.seq == seq)) (k ∷ without seq ks) (without seq ks)) ≡ cond (not k.parked) (k ∷ unparked_ones ks) (unparked_ones ks)
+    by : (b : Bool) → p k ≡ b → (option_map (λ (x : Kept). x.entry.seq) (find p ks) ≡ Some seq → rejected p (without seq ks) ≡ rejected p ks) → option_map (λ (x : Kept). x.entry.seq) (cond b (Some k) (find p ks)) ≡ Some seq → rejected p (cond (not (k.entry.seq == seq)) (k ∷ without seq ks) (without seq ks)) ≡ cond (not (p k)) (k ∷ rejected p ks) (rejected p ks)
     by true e rest h =
         let same : k.entry.seq ≡ seq = cc in
         let yes : (k.entry.seq == seq) ≡ true = ap (λ (n : ℕ). n == seq) same ∙ eqb-self seq in
         let gone : without seq ks ≡ ks = without-absent seq ks (ap (λ (n : ℕ). contains_seq n ks) (sym same) ∙ d.0) in
-        ap (λ (b : Bool). unparked_ones (cond (not b) (k ∷ without seq ks) (without seq ks))) yes
-        ∙ ap (λ (xs : List Kept). unparked_ones xs) gone
-        ∙ sym (ap (λ (b : Bool). cond (not b) (k ∷ unparked_ones ks) (unparked_ones ks)) e)
+        ap (λ (b : Bool). rejected p (cond (not b) (k ∷ without seq ks) (without seq ks))) yes
+        ∙ ap (λ (xs : List Kept). rejected p xs) gone
+        ∙ sym (ap (λ (b : Bool). cond (not b) (k ∷ rejected p ks) (rejected p ks)) e)
     by false e rest h =
-        let no : (k.entry.seq == seq) ≡ false = apart seq k ks d.0 (contains_found seq ks h) in
-        ap (λ (b : Bool). unparked_ones (cond (not b) (k ∷ without seq ks) (without seq ks))) no
-        ∙ ap (λ (xs : List Kept). cond (not k.parked) (k ∷ xs) xs) (rest h)
+        let no : (k.entry.seq == seq) ≡ false = apart seq k ks d.0 (contains_found p seq ks h) in
+        ap (λ (b : Bool). rejected p (cond (not b) (k ∷ without seq ks) (without seq ks))) no
+        ∙ ap (λ (xs : List Kept). cond (not (p k)) (k ∷ xs) xs) (rest h)
 
--- where none is parked, none goes
-pub unparked_ones-all : (ks : List Kept) → option_map (λ (x : Kept). x.entry.seq) (find (λ (x : Kept). x.parked) ks) ≡ None → unparked_ones ks ≡ ks
-unparked_ones-all [] h = refl
-unparked_ones-all (k ∷ ks) h = by k.parked (unparked_ones-all ks) h
+-- where none passes, none goes
+pub rejected-all : (p : Kept → Bool) (ks : List Kept) → option_map (λ (x : Kept). x.entry.seq) (find p ks) ≡ None → rejected p ks ≡ ks
+rejected-all p [] h = refl
+rejected-all p (k ∷ ks) h = by (p k) (rejected-all p ks) h
   where
-    by : (b : Bool) → (option_map (λ (x : Kept). x.entry.seq) (find (λ (x : Kept). x.parked) ks) ≡ None → unparked_ones ks ≡ ks) → option_map (λ (x : Kept). x.entry.seq) (cond b (Some k) (find (λ (x : Kept). x.parked) ks)) ≡ None → cond (not b) (k ∷ unparked_ones ks) (unparked_ones ks) ≡ k ∷ ks
+    by : (b : Bool) → (option_map (λ (x : Kept). x.entry.seq) (find p ks) ≡ None → rejected p ks ≡ ks) → option_map (λ (x : Kept). x.entry.seq) (cond b (Some k) (find p ks)) ≡ None → cond (not b) (k ∷ rejected p ks) (rejected p ks) ≡ k ∷ ks
     by true rest e = cc
     by false rest e = ap (λ (xs : List Kept). k ∷ xs) (rest e)
 
@@ -286,8 +290,8 @@ shorter-cases true n k ks h f = omega arith
 shorter-cases false n k ks h f = let less = f refl in omega arith
 
 -- one request less is kept
-pub length-without_one : (seq : ℕ) (ks : List Kept) → option_map (λ (x : Kept). x.entry.seq) (find (λ (x : Kept). x.parked) ks) ≡ Some seq → length (without seq ks) < length ks
-length-without_one seq ks h = fewer seq ks (contains_found seq ks h)
+pub length-without_one : (p : Kept → Bool) (seq : ℕ) (ks : List Kept) → option_map (λ (x : Kept). x.entry.seq) (find p ks) ≡ Some seq → length (without seq ks) < length ks
+length-without_one p seq ks h = fewer seq ks (contains_found p seq ks h)
   where
     back : (b c : Bool) → (b || c) ≡ true → b ≡ false → c ≡ true
     back true c h e = cc

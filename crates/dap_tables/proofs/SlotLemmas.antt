@@ -31,10 +31,6 @@ pub oldest_unparked-slots : (slots : List Slot) → option_map (λ slot. slot.en
 oldest_unparked-slots [] = refl
 oldest_unparked-slots (s ∷ slots) = oldest-cases (not s.parked) s (find (λ (t : Slot). not t.parked) slots) (find (λ (k : Kept). not k.parked) (map kept_of slots)) (oldest_unparked-slots slots)
 
-pub oldest_parked-slots : (slots : List Slot) → option_map (λ slot. slot.entry.seq) (find (λ slot. slot.parked) slots) ≡ option_map (λ k. k.entry.seq) (find (λ (k : Kept). k.parked) (map kept_of slots))
-oldest_parked-slots [] = refl
-oldest_parked-slots (s ∷ slots) = oldest-cases s.parked s (find (λ (t : Slot). t.parked) slots) (find (λ (k : Kept). k.parked) (map kept_of slots)) (oldest_parked-slots slots)
-
 pub is_parked-slots : (seq : ℕ) (slots : List Slot) → HasDistinctSeqs (map kept_of slots) → is_parked seq (map kept_of slots) ≡ marked_in (find (λ slot. slot.entry.seq == seq) slots)
 is_parked-slots seq [] d = refl
 is_parked-slots seq (s ∷ slots) d = by (s.entry.seq == seq) refl (is_parked-slots seq slots d.1)

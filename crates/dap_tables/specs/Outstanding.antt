@@ -7,7 +7,7 @@ use Rattle.std.specs.Prelude.{◌≡◌, ℕ, ◌≤◌, ◌==◌, Bool, false, 
 use Rattle.std.specs.List.{list_any}
 use Rattle.dap_tables.specs.declared.entry.Entry.{Entry}
 
--- a request, and whether it is parked: its answer waits for another request
+-- a request, and whether it is parked: its answer waits for another request, or for whoever holds the table
 pub record Kept : Type 0 where
   pub entry : Entry
   pub parked : Bool

@@ -1,5 +1,5 @@
 //! The requests that an end has still to answer.
-ghost use Rattle.std.specs.Prelude.{◌≡◌, ◌<◌, ◌≤◌, ◌↔◌, [], true, false, length, IsTrue, IsSome, IfOk, IfErr, IfSome, IfNone, OnOk, OnErr, Err, Some, find};
+ghost use Rattle.std.specs.Prelude.{◌≡◌, ◌<◌, ◌≤◌, ◌↔◌, [], true, false, length, IsTrue, IsSome, IfOk, IfErr, IfSome, IfNone, OnOk, OnErr, Err, Some};
 ghost use Rattle.std.specs.Option.{option_copied, option_map};
 ghost use Rattle.dap_tables.specs.Outstanding.{IsOrderlyRequests, HasNoRoomForRequest, entries, contains_seq, entry_with, without, is_parked, with_mark, oldest_unparked, parked_ones, unparked_ones, IsOutstanding, with_request};
 ghost use Rattle.dap_tables.specs.PutFault.{refused_entry};
@@ -120,23 +120,13 @@ impl Outstanding {
         self.order.clear();
     }
 
-    /// Gives up the requests that are parked.
-    pub fn clear_parked(&mut self)
-        ensures others { self.new ≡ record self.old { kept = unparked_ones self.old.kept } }
-        ensures orderly { IsOrderlyRequests self.new }
-    {
-        while let Some(seq) = self.oldest_parked() {
-            self.give_up(seq);
-        }
-    }
-
     /// The seq of the request that came first of those that are not parked.
     pub fn oldest_unparked(&self) -> Option<u64>
         ensures oldest { result ≡ oldest_unparked self.now.kept }
         ensures kept { IfSome result (λ seq. IsTrue (contains_seq seq self.now.kept)) }
         ensures unparked { IfSome result (λ seq. is_parked seq self.now.kept ≡ false) }
     {
-        slot::oldest(&self.slots, &self.order, false)
+        slot::oldest(&self.slots, &self.order)
     }
 
     /// Parks the request with a seq, which is kept: its answer waits for another request.
@@ -239,20 +229,5 @@ impl Outstanding {
             Some(key) => self.slots[key].parked = parked,
             None => {}
         }
-    }
-
-    fn give_up(&mut self, seq: u64)
-        ensures { self.new ≡ record self.old { kept = without seq self.old.kept } }
-    {
-        self.take(seq);
-    }
-
-    // The seq of the request that came first of those that are parked.
-    fn oldest_parked(&self) -> Option<u64>
-        ensures oldest { let found = find (λ k. k.parked) self.now.kept in
-            result ≡ option_map (λ k. k.entry.seq) found }
-        ensures orderly { IsOrderlyRequests self.now }
-    {
-        slot::oldest(&self.slots, &self.order, true)
     }
 }

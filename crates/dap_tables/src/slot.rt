@@ -1,5 +1,5 @@
 //! A request as the table stores it, and the walks over its store.
-ghost use Rattle.std.specs.Prelude.{◌≡◌, not, if◌then◌else◌, find, count_by};
+ghost use Rattle.std.specs.Prelude.{◌≡◌, not, find, count_by};
 ghost use Rattle.std.specs.Option.{option_map, option_copied};
 ghost use Rattle.slab.specs.Slab.{get};
 ghost use Rattle.dap_tables.specs.PrivateOutstandingStore.{IsFilled, marked_in, slot_at, slots_at};
@@ -36,16 +36,16 @@ pub(crate) fn is_parked_at(slots: &Slab<Slot>, key: Option<usize>) -> bool
     }
 }
 
-/// The seq of the request that came first of those that are parked, or of those that are not.
-pub(crate) fn oldest(slots: &Slab<Slot>, order: &Arrivals, parked: bool) -> Option<u64>
+/// The seq of the request that came first of those that are not parked.
+pub(crate) fn oldest(slots: &Slab<Slot>, order: &Arrivals) -> Option<u64>
     requires { IsFilled (λ key. get slots.now key) order.now.keys }
-    ensures { let found = find (λ slot. if parked then slot.parked else not slot.parked) (slots_at (λ key. get slots.now key) order.now.keys) in
+    ensures { let found = find (λ slot. not slot.parked) (slots_at (λ key. get slots.now key) order.now.keys) in
         result ≡ option_map (λ slot. slot.entry.seq) found }
 {
     let mut at = order.first();
     while let Some(key) = at {
         let slot = &slots[key];
-        if slot.parked == parked {
+        if !slot.parked {
             return Some(slot.entry.seq);
         }
         at = order.after(key);

@@ -120,6 +120,7 @@ pub fn emit<D: Debuggee + Drop>(
     ensures step { OnOk result (EmitSteps D.shown D.follows adapter.old adapter.new out.old out.new) }
     ensures refused { IfErr result (NotEmitted event.now body.now adapter.old) }
     ensures unchanged { OnErr result (adapter.new ≡ adapter.old) }
+    ensures buffer { OnErr result (out.new.items ≡ out.old.items) }
 {
     adapter.emit(alloc, event, body, out)
 }

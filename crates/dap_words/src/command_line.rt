@@ -310,7 +310,7 @@ fn host<'a>(alloc: Global, limit_texts: &'a [String]) -> Result<Command<'a>, All
         alloc,
         "host",
         "Is the adapter of a debugger in another program, over lines of standard input and standard output",
-        "Lines in:\n  > MESSAGE  a message of the client\n  ! OBJECT   what the debugger did, with `happened`: output, stopped, continued, exited, learned or loaded; or a question, with `asked`\nLines out:\n  < MESSAGE  a message for the client\n  ! OBJECT   what the debugger has to do, with `act`: start, resume, pause, setBreakpoints, setVariable or end; what a number of the client names, with `target`; or the number of a line that is `refused`, and `why`\nEach line is answered whole before the next one is taken. Empty lines are skipped, and counted.\n\nStatuses: 0 the input ended, 2 usage, 3 the sources or a message is refused or no sequence number is left, 5 read or write, 6 memory",
+        "Lines in:\n  > MESSAGE  a message of the client\n  ! OBJECT   what the debugger did, with `happened`: output, stopped, continued, exited, learned or loaded; an answer to a request, with `answer`; or a question, with `asked`\nLines out:\n  < MESSAGE  a message for the client\n  ! OBJECT   what the debugger has to do, with `act`: start, resume, pause, setBreakpoints, setVariable or end; a request that waits for an answer, with `lent`; what a number of the client names, with `target`; or the number of a line that is `refused`, and `why`\nEach line is answered whole before the next one is taken. Empty lines are skipped, and counted.\n\nStatuses: 0 the input ended, 2 usage, 3 the sources or a message is refused or no sequence number is left, 5 read or write, 6 memory",
     )
     .arg(file_word(
         alloc,

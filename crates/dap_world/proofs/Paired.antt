@@ -15,7 +15,8 @@ use Rattle.dap_check.specs.declared.line.Side.TheVariants.{Adapter}
 use Rattle.dap_plan.specs.Answering.{GoesWell}
 use Rattle.dap_plan.specs.GivenLaws.{given_by}
 use Rattle.dap_plan.specs.Plan.{Made, written_by}
-use Rattle.dap_outbox.specs.Draft.{success, failure, explained, Draft, reply, emit, ask, message_of, numbered_messages, requests_in}
+use Rattle.dap_message.specs.declared.outcome.Outcome.TheVariants as outcome
+use Rattle.dap_outbox.specs.Draft.{success, failure, explained, came_out, Draft, reply, emit, ask, message_of, numbered_messages, requests_in}
 use Rattle.dap_plan.specs.Session.{Session, own_requests}
 use Rattle.dap_plan.specs.SessionState.{SessionState}
 use Rattle.dap_client.specs.Projection.{references_seen}
@@ -44,6 +45,8 @@ pub note-told : (n : ℕ) (d : Draft) (named : List Ref) → IsHarmless d → re
 note-told n (reply r (success body names)) named h g = ap (λ (refs : List Ref). let m : NumberedNote = record { seq = n; note = record { message = told (reply r (success body names)); refs = refs } } in m) g
 note-told n (reply r (failure f)) named h g = refl
 note-told n (reply r (explained w)) named h g = refl
+note-told n (reply r (came_out (outcome.Success body))) named h g = ap (λ (refs : List Ref). let m : NumberedNote = record { seq = n; note = record { message = told (reply r (came_out (outcome.Success body))); refs = refs } } in m) g
+note-told n (reply r (came_out (outcome.Failure message body))) named h g = refl
 note-told n (emit event) named h g = refl
 note-told n ask named h g = absurd h
 

@@ -20,7 +20,8 @@ use Rattle.dap_call.specs.declared.call.Call.{Call}
 use Rattle.dap_envelope.specs.declared.message.Kind.{Kind}
 use Rattle.dap_envelope.specs.declared.message.Kind.TheVariants.{Request, Response, Event, Other}
 use Rattle.dap_envelope.specs.declared.message.Message.{Message}
-use Rattle.dap_outbox.specs.Draft.{Draft, reply, emit, ask, success, failure, explained, numbered_messages, own_request}
+use Rattle.dap_message.specs.declared.outcome.Outcome.TheVariants as outcome
+use Rattle.dap_outbox.specs.Draft.{Draft, reply, emit, ask, success, failure, explained, came_out, numbered_messages, own_request}
 use Rattle.dap_plan.specs.Answering.{AnswersEach, GoesWell, answered_by, open_after, with_seq}
 use Rattle.dap_plan.specs.Carried.{Goes}
 use Rattle.dap_plan.specs.Laws.{CanMake, can_make}
@@ -137,6 +138,10 @@ module _ (by : ByNumber) (n : ℕ) where
       (answers-one r used (reply r (failure f)) (picked open_requests r.seq (asked_of r) h a.0), responses-are (used + 1) ds (without_answered (answered_by (reply r (failure f))) open_requests) a.1 (all-filter (IsSent by n) (λ (q : Asked). not (has_request_seq q.seq (answered_by (reply r (failure f))))) open_requests h))
   responses-are used (reply r (explained w) ∷ ds) open_requests a h =
       (answers-one r used (reply r (explained w)) (picked open_requests r.seq (asked_of r) h a.0), responses-are (used + 1) ds (without_answered (answered_by (reply r (explained w))) open_requests) a.1 (all-filter (IsSent by n) (λ (q : Asked). not (has_request_seq q.seq (answered_by (reply r (explained w))))) open_requests h))
+  responses-are used (reply r (came_out (outcome.Success body)) ∷ ds) open_requests a h =
+      (answers-one r used (reply r (came_out (outcome.Success body))) (picked open_requests r.seq (asked_of r) h a.0), responses-are (used + 1) ds (without_answered (answered_by (reply r (came_out (outcome.Success body)))) open_requests) a.1 (all-filter (IsSent by n) (λ (q : Asked). not (has_request_seq q.seq (answered_by (reply r (came_out (outcome.Success body)))))) open_requests h))
+  responses-are used (reply r (came_out (outcome.Failure message body)) ∷ ds) open_requests a h =
+      (answers-one r used (reply r (came_out (outcome.Failure message body))) (picked open_requests r.seq (asked_of r) h a.0), responses-are (used + 1) ds (without_answered (answered_by (reply r (came_out (outcome.Failure message body)))) open_requests) a.1 (all-filter (IsSent by n) (λ (q : Asked). not (has_request_seq q.seq (answered_by (reply r (came_out (outcome.Failure message body)))))) open_requests h))
   responses-are used (emit event ∷ ds) open_requests a h = responses-are (used + 1) ds (without_answered None open_requests) a (all-filter (IsSent by n) (λ (q : Asked). not (has_request_seq q.seq None)) open_requests h)
   responses-are used (ask ∷ ds) open_requests a h = responses-are (used + 1) ds (without_answered None open_requests) a (all-filter (IsSent by n) (λ (q : Asked). not (has_request_seq q.seq None)) open_requests h)
 
@@ -150,6 +155,8 @@ own-are used [] = tt
 own-are used (reply r (success body names) ∷ ds) = own-are (used + 1) ds
 own-are used (reply r (failure f) ∷ ds) = own-are (used + 1) ds
 own-are used (reply r (explained w) ∷ ds) = own-are (used + 1) ds
+own-are used (reply r (came_out (outcome.Success body)) ∷ ds) = own-are (used + 1) ds
+own-are used (reply r (came_out (outcome.Failure message body)) ∷ ds) = own-are (used + 1) ds
 own-are used (emit event ∷ ds) = own-are (used + 1) ds
 own-are used (ask ∷ ds) = (refl, own-are (used + 1) ds)
 

@@ -1,5 +1,5 @@
 -- A response that the adapter takes ends the waiting of the smaller adapter, or comes too late there too.
-use Rattle.std.proofs.Common.{◌≡◌, ℕ, List, [], Bool, true, false, Option, Some, None, Result, Ok, Err, refl, sym, ap, ◌∙◌, subst, arith}
+use Rattle.std.proofs.Common.{◌≡◌, ℕ, List, [], Bool, true, false, Option, Some, None, Result, Ok, Err, refl, sym, ap, ◌∙◌, subst, arith, length}
 use Rattle.std.specs.Prelude.{◌==◌, ◌&&◌, not, nat_le, ◌+◌, bytes_eq, if◌then◌else◌}
 use Rattle.std.proofs.lemmas.Bool.Decides.{nat_tests}
 use Rattle.dap_ends.specs.Messages.{answer_each as answer_all}
@@ -8,20 +8,21 @@ use Rattle.dap_ends.specs.AdapterModel as model
 use Rattle.dap_ends.specs.Standing.{AllLaunch}
 use Rattle.dap_ends.proofs.Counts.{names-same}
 use Rattle.dap_call.specs.Terminal.{run_in_terminal}
-use Rattle.dap_tables.specs.Outstanding.{parked_ones, unparked_ones}
+use Rattle.dap_tables.specs.Outstanding.{Kept, parked_ones, unparked_ones}
+use Rattle.dap_outbox.specs.Waiting.{starting_ones}
 use Rattle.dap_debuggee.specs.Shown.{Reply, refused}
 use Rattle.dap_plan.specs.declared.fault.AdapterFault.{AdapterFault}
 use Rattle.dap_plan.specs.declared.fault.AdapterFault.TheVariants.{Unmatched, CommandMismatch, SeqExhausted}
 use Rattle.dap_decision.specs.declared.phase.Phase.{Phase}
 use Rattle.dap_decision.specs.declared.phase.Phase.TheVariants as adapter
-use Rattle.dap_plan.specs.Handling.{by_reply, start_phase, by_reply_each}
+use Rattle.dap_plan.specs.Handling.{answer_parked, by_reply, start_phase, by_reply_each}
 use Rattle.dap_plan.specs.Laws.{CanMake}
 use Rattle.dap_plan.specs.Plan.{Made, Plan, messages_due, plan_within_numbers}
 use Rattle.dap_plan.specs.Session.{Session, is_asked}
 use Rattle.dap_plan.specs.Taking.{after_terminal, after_late_terminal, plan_of_response, takes_response}
 use Rattle.dap_world.specs.Projection.{adapter_model_phase, all_kept, adapter_model_of}
 use Rattle.dap_world.proofs.Answered.{AllHarmless, AllGiveNone, none-each, none-parked-reply, is_done, told-parked, starts-phase, harmless-after_park, same-adapter-model}
-use Rattle.dap_world.proofs.KeptSeen.{all_told, each-succeeded, parked-seen, unparked-seen}
+use Rattle.dap_world.proofs.KeptSeen.{starting-parked, others-unparked, all_told, each-succeeded, parked-seen, unparked-seen}
 use Rattle.dap_world.proofs.RowsSeen.{at}
 use Rattle.dap_world.proofs.TakesSeen.{afforded}
 
@@ -39,16 +40,24 @@ pub record EndsWaiting (s : Session) (ok : Bool) (made : Made) : Type 0 where
 ends-moved : (s : Session) (ok : Bool) (m made : Made) → made ≡ m → EndsWaiting s ok m → EndsWaiting s ok made
 ends-moved s ok m made e a = subst (λ (x : Made). EndsWaiting s ok x) (sym e) a
 
+-- what is made, by those that wait for the start and by the others
+abbrev ended_as : Session → Reply → List Kept → List Kept → Made
+ended_as s last waiting others = record {
+  drafts = answer_parked s waiting last;
+  drops = false;
+  after = record s { phase = start_phase last; kept = others; asked = None; used = s.used + length waiting };
+}
+
 -- the debuggee replied so
-ends-by : (s : Session) (ok starts : Bool) (last : Reply) → (ok && starts) ≡ is_done last → AllLaunch (parked_of (all_kept s.kept)) → EndsWaiting (at adapter.Asked s) ok (after_terminal (at adapter.Asked s) last)
-ends-by s ok starts last e l =
+ends-as : (s : Session) (ok starts : Bool) (last : Reply) → (ok && starts) ≡ is_done last → AllLaunch (parked_of (all_kept s.kept)) → EndsWaiting (at adapter.Asked s) ok (ended_as (at adapter.Asked s) last (parked_ones s.kept) (unparked_ones s.kept))
+ends-as s ok starts last e l =
     let d = adapter_model_of (at adapter.Asked s) in
     let waits = at adapter.Asked s in
     let parked = parked_ones s.kept in
     let answers = each-succeeded (by_reply_each waits parked last) (is_done last) parked (told-parked waits parked last) in
-    let after : adapter_model_of (after_terminal (at adapter.Asked s) last).after ≡ (ends_wait model.AdapterAsked d (is_done last)).adapter =
+    let after : adapter_model_of (ended_as (at adapter.Asked s) last (parked_ones s.kept) (unparked_ones s.kept)).after ≡ (ends_wait model.AdapterAsked d (is_done last)).adapter =
     same-adapter-model (adapter_model_phase (start_phase last)) (phase_after_start (is_done last)) (all_kept (unparked_ones s.kept)) (unparked_of (all_kept s.kept)) (starts-phase last) (unparked-seen s.kept) in
-    let outs : all_told (after_terminal (at adapter.Asked s) last).drafts ≡ (ends_wait model.AdapterAsked d (is_done last)).outs =
+    let outs : all_told (ended_as (at adapter.Asked s) last (parked_ones s.kept) (unparked_ones s.kept)).drafts ≡ (ends_wait model.AdapterAsked d (is_done last)).outs =
     answers ∙ ap (λ (ks : List SmallKept). answer_all (is_done last) (small_asks ks)) (parked-seen s.kept) in
     record {
       starts = starts;
@@ -60,6 +69,12 @@ ends-by s ok starts last e l =
       references_are = refl;
       none_given = none-each (by_reply_each waits parked last) parked (none-parked-reply waits parked last);
     }
+
+ends-by : (s : Session) (ok starts : Bool) (last : Reply) → (ok && starts) ≡ is_done last → AllLaunch (parked_of (all_kept s.kept)) → EndsWaiting (at adapter.Asked s) ok (after_terminal (at adapter.Asked s) last)
+ends-by s ok starts last e l =
+    let waits = at adapter.Asked s in
+    let moved = subst (λ (ks : List Kept). EndsWaiting waits ok (ended_as waits last ks (unparked_ones s.kept))) (sym (starting-parked s.kept l)) (ends-as s ok starts last e l) in
+    subst (λ (ks : List Kept). EndsWaiting waits ok (ended_as waits last (starting_ones s.kept) ks)) (sym (others-unparked s.kept l)) moved
 
 -- none is waited for
 ends-late : (p : Phase) (s : Session) (ok : Bool) → ends_wait (adapter_model_phase p) (adapter_model_of (at p s)) (ok && true) ≡ (let m : model.Made = record { adapter = adapter_model_of (at p s); outs = [] } in m) → EndsWaiting (at p s) ok (after_late_terminal (at p s))

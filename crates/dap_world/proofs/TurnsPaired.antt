@@ -40,7 +40,7 @@ use Rattle.dap_client.specs.Projection.{class_of, class_if, ask_of, entry_ask}
 use Rattle.dap_world.specs.Projection.{note_seen, notes_seen, written_seen, adapter_model_phase, all_kept, adapter_model_of, announces, wanted_by, wanted_of, own_seen, table_of, ByNumber, pair_of, kept_seen}
 use Rattle.dap_world.specs.World.{World, said_by}
 use Rattle.dap_world.proofs.Answered.{AllHarmless, given_first, AllGive, all-none}
-use Rattle.dap_world.proofs.KeptSeen.{told, all_told}
+use Rattle.dap_world.proofs.KeptSeen.{launch-head, launch-tail, told, all_told}
 use Rattle.dap_world.proofs.Paired.{notes-append, written-more, keeps-all, note-told, told-length, inspection-so, own-stays, same-adapter, made-pair, world_made}
 use Rattle.dap_world.proofs.ReferencesSeen.{length-kinds, all-live}
 use Rattle.dap_world.proofs.RowsSeen.{asks_by, options_by}
@@ -60,14 +60,6 @@ launch-wants None arguments h = refl
 launch-wants (Some command.Initialize) arguments h = absurd (omega (arith, h))
 launch-wants (Some command.Launch) arguments h = refl
 launch-wants (Some _) arguments h = refl
-
-launch-tail : (b : Bool) (k : SmallKept) (ks : List SmallKept) → AllLaunch (if b then k ∷ ks else ks) → AllLaunch ks
-launch-tail true k ks l = l.1
-launch-tail false k ks l = l
-
-launch-head : (b : Bool) (k : SmallKept) (ks : List SmallKept) → AllLaunch (if b then k ∷ ks else ks) → b ≡ true → code k.ask.command ≡ 1
-launch-head true k ks l e = l.0
-launch-head false k ks l e = cc
 
 module _ (options : Options) (by : ByNumber) (used : ℕ) where
   abbrev any_wants : List Ask → Bool

@@ -8,20 +8,22 @@ pub mod laws;
 mod news;
 mod program;
 mod queries;
+mod session;
 mod toy;
 
-use crate::toy::Toy;
+use crate::session::Session;
 use dap_channel::Pipe;
-use dap_frame::Limits;
 use std::io;
 use std::process::ExitCode;
 
 /// Serves the program from standard input to standard output. The status is 1 where the session broke off.
 fn main(rt: HostRuntime) -> ExitCode {
     let mut pipe = Pipe::new(rt.reader(), io::writer(&rt));
-    let toy = Toy::open(rt.alloc());
-    match dap_adapter::serve(rt.alloc(), &mut pipe, toy, Limits::usual(), u64::MAX) {
-        Ok(_) => ExitCode::SUCCESS,
-        Err(_) => ExitCode::FAILURE,
+    let Some(mut session) = Session::open(rt.alloc()) else {
+        return ExitCode::FAILURE;
+    };
+    match session.serve(&mut pipe) {
+        Some(()) => ExitCode::SUCCESS,
+        None => ExitCode::FAILURE,
     }
 }

@@ -201,7 +201,7 @@ impl Toy {
     }
 
     /// The variables of a call, in a stop.
-    fn locals_of(&self, holder: u64) -> Option<&[Local]>
+    pub(crate) fn locals_of(&self, holder: u64) -> Option<&[Local]>
         ensures { option_map (λ locals. locals.now) result ≡ locals_in (calls_in self.now.state self.now.stack) holder }
     {
         let call = self.shown_now()?.get(holder as usize)?;

@@ -78,28 +78,35 @@ fn adapter_after(alloc: Global, limits: Limits, messages: &[&str]) -> Option<Ada
     Some(adapter)
 }
 
-/// Whether this comes of an event with a body, or with none where there is no text.
-fn comes(
+/// What is appended of an event with this text as its body, or with none where that is no JSON; or why it is not told.
+fn told(
     alloc: Global,
     adapter: &mut Adapter<Recorded>,
     event: &str,
     body: &str,
-    wanted: &str,
-) -> bool {
+) -> Result<Vec<u8>, &'static str> {
     let body = match parse(alloc, body.as_bytes()) {
         Ok(value) => Some(Tree::new(value)),
         Err(_) => None,
     };
     if !is_plain_tree(&body) {
-        return false;
+        return Err("not plain");
     }
     let mut out = Vec::new(alloc);
     match adapter.emit(alloc, event, &body, &mut out) {
-        Ok(()) => match first_body(&out) {
-            Some((told, rest)) => told == wanted.as_bytes() && rest.is_empty(),
+        Ok(()) => Ok(out),
+        Err(fault) => Err(name_of(fault)),
+    }
+}
+
+/// Whether that is just one message, of this text, or it is not told for the reason of this name.
+fn is(told: Result<Vec<u8>, &'static str>, wanted: &str) -> bool {
+    match told {
+        Ok(out) => match first_body(&out) {
+            Some((body, rest)) => body == wanted.as_bytes() && rest.is_empty(),
             None => false,
         },
-        Err(fault) => name_of(fault) == wanted && out.is_empty(),
+        Err(why) => why == wanted,
     }
 }
 
@@ -110,13 +117,13 @@ fn events_are_told_by_their_names(rt: HostRuntime) -> Result<(), Fail> {
         let Some(mut adapter) = adapter_after(rt.alloc(), Limits::usual(), before) else {
             return Err(Fail::from("no adapter"));
         };
-        assert!(rt; comes(rt.alloc(), &mut adapter, event, body, wanted));
+        assert!(rt; is(told(rt.alloc(), &mut adapter, event, body), wanted));
     }
     Ok(())
 }
 
 /// A body that is a text of so many bytes.
-fn text_of(alloc: Global, bytes: usize) -> Result<String, AllocError> {
+pub(crate) fn text_of(alloc: Global, bytes: usize) -> Result<String, AllocError> {
     let mut text = String::new(alloc);
     text.push('"')?;
     for _ in 0..bytes {
@@ -126,29 +133,22 @@ fn text_of(alloc: Global, bytes: usize) -> Result<String, AllocError> {
     Ok(text)
 }
 
-/// An event with such a body, at an adapter whose bodies have at most 1024 bytes and which has three own numbers.
-fn row_within(alloc: Global, adapter: &mut Adapter<Recorded>, bytes: usize, wanted: &str) -> bool {
+/// Whether an event with such a body is told in 1024 bytes, or is not for the reason of this name.
+fn is_told_in(alloc: Global, adapter: &mut Adapter<Recorded>, bytes: usize, wanted: &str) -> bool {
     let Ok(body) = text_of(alloc, bytes) else {
         return false;
     };
-    let body = match parse(alloc, body.as_bytes()) {
-        Ok(value) => Some(Tree::new(value)),
-        Err(_) => None,
-    };
-    if !is_plain_tree(&body) {
-        return false;
-    }
-    let mut out = Vec::new(alloc);
-    match adapter.emit(alloc, "m", &body, &mut out) {
-        Ok(()) => match first_body(&out) {
-            Some((told, _rest)) => wanted == "told" && told.len() == 1024,
+    match told(alloc, adapter, "m", body.as_str()) {
+        Ok(out) => match first_body(&out) {
+            Some((body, _rest)) => wanted == "told" && body.len() == 1024,
             None => false,
         },
-        Err(fault) => name_of(fault) == wanted && out.is_empty(),
+        Err(why) => why == wanted,
     }
 }
 
-/// Around the text of its body, `{"body":"","event":"m","seq":3,"type":"event"}`, are 46 bytes.
+/// At an adapter whose bodies have at most 1024 bytes, and which has three own numbers. Around the text of the event's body,
+/// `{"body":"","event":"m","seq":3,"type":"event"}`, are 46 bytes.
 #[test]
 fn events_keep_to_the_limits(rt: HostRuntime) -> Result<(), Fail> {
     let Ok(limits) = Limits::usual().with(LimitFault::Body, 1024) else {
@@ -160,10 +160,10 @@ fn events_keep_to_the_limits(rt: HostRuntime) -> Result<(), Fail> {
     let Some(mut adapter) = adapter_after(rt.alloc(), limits, &[INITIALIZE]) else {
         return Err(Fail::from("no adapter"));
     };
-    assert!(rt; row_within(rt.alloc(), &mut adapter, 979, "TooLarge"));
-    assert!(rt; row_within(rt.alloc(), &mut adapter, 978, "told"));
-    assert!(rt; row_within(rt.alloc(), &mut adapter, 978, "SeqExhausted"));
-    assert!(rt; row_within(rt.alloc(), &mut adapter, 979, "TooLarge"));
+    assert!(rt; is_told_in(rt.alloc(), &mut adapter, 979, "TooLarge"));
+    assert!(rt; is_told_in(rt.alloc(), &mut adapter, 978, "told"));
+    assert!(rt; is_told_in(rt.alloc(), &mut adapter, 978, "SeqExhausted"));
+    assert!(rt; is_told_in(rt.alloc(), &mut adapter, 979, "TooLarge"));
     Ok(())
 }
 
@@ -173,6 +173,6 @@ fn a_closed_adapter_tells_no_event(rt: HostRuntime) -> Result<(), Fail> {
         return Err(Fail::from("no adapter"));
     };
     assert!(rt; adapter.take(rt.alloc(), b"no header\r\n\r\n").is_err());
-    assert!(rt; comes(rt.alloc(), &mut adapter, "module", "", "Closed"));
+    assert!(rt; is(told(rt.alloc(), &mut adapter, "module", ""), "Closed"));
     Ok(())
 }

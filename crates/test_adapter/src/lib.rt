@@ -12,13 +12,19 @@ mod frames;
 #[cfg(test)]
 mod greatest;
 #[cfg(test)]
+mod holding;
+#[cfg(test)]
 mod last_numbers;
+#[cfg(test)]
+mod lending;
 #[cfg(test)]
 mod moved;
 #[cfg(test)]
 mod next;
 #[cfg(test)]
 mod offers;
+#[cfg(test)]
+mod opening;
 #[cfg(test)]
 mod playing;
 #[cfg(test)]

@@ -69,7 +69,7 @@ fn offer_of(alloc: Global, text: &str, refused: &mut String) -> Option<Offer> {
 }
 
 /// The first message of an adapter that offers this.
-fn first_answer(alloc: Global, offer: Offer) -> Option<String> {
+pub(crate) fn first_answer(alloc: Global, offer: Offer) -> Option<String> {
     let debuggee = Recorded::read(alloc, RECORDING).ok()?;
     let limits = Limits::usual();
     let Ok(true) = offers_fit(alloc, limits, &offer) else {
@@ -92,7 +92,8 @@ fn first_answer(alloc: Global, offer: Offer) -> Option<String> {
     Some(text)
 }
 
-fn whole(alloc: Global, body: &str) -> Result<String, AllocError> {
+/// The message that has this body.
+pub(crate) fn whole(alloc: Global, body: &str) -> Result<String, AllocError> {
     let mut text = String::new(alloc);
     text.push_str(r#"{"body":"#)?;
     text.push_str(body)?;

@@ -5,4 +5,4 @@ use Rattle.dap_command.proofs.offer.refused_key.Given as goal
 
 -- none of those before is refused
 abbrev pub invariant-loop-key : goal.invariant-loop-key
-invariant-loop-key l = refused_key (members_view l.map.entries) ≡ refused_key (members_view l.key-iterator)
+invariant-loop-key l = refused_key l.opened (members_view l.map.entries) ≡ refused_key l.opened (members_view l.key-iterator)

@@ -5,9 +5,9 @@ use Rattle.dap_outbox.proofs.several.answer_rest.Given as goal
 
 abbrev pub invariant-loop-request : goal.invariant-loop-request
 invariant-loop-request l = record {
-  room : l.outbox.numbers.used + length (filter (λ r. is_chosen l.fn.which l.fn.kept.kept r.seq) l.requests) ≤ l.outbox.numbers.last;
-  goes : (final : OutboxState) → WritesAll l.outbox final (answer_where (λ seq. is_chosen l.fn.which l.fn.kept.kept seq) (answer_by l.fn.failure) l.requests)
-      → WritesAll l.initial.outbox final (answer_where (λ seq. is_chosen l.fn.which l.fn.kept.kept seq) (answer_by l.fn.failure) l.initial.requests);
+  room : l.outbox.numbers.used + length (filter (λ r. is_chosen l.fn.which l.fn.kept.kept r) l.requests) ≤ l.outbox.numbers.last;
+  goes : (final : OutboxState) → WritesAll l.outbox final (answer_where (λ r. is_chosen l.fn.which l.fn.kept.kept r) (answer_by l.fn.failure) l.requests)
+      → WritesAll l.initial.outbox final (answer_where (λ r. is_chosen l.fn.which l.fn.kept.kept r) (answer_by l.fn.failure) l.initial.requests);
   before : l.outbox.before ≡ l.initial.outbox.before;
 }
 

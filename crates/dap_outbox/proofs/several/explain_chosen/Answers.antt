@@ -1,8 +1,3 @@
-use Rattle.std.proofs.Common.{ap}
-use Rattle.dap_outbox.specs.Draft.{explained}
-use Rattle.dap_outbox.specs.Outbox.{OutboxState}
-use Rattle.dap_outbox.specs.Several.{is_chosen, answer_where, WritesWithin}
-use Rattle.dap_tables.specs.Outstanding.{entries}
 use Rattle.dap_outbox.proofs.several.explain_chosen.Goals as goal
 
 pub returns-clause-writes : goal.returns-clause-writes

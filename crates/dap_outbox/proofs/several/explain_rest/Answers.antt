@@ -1,4 +1,4 @@
-use Rattle.std.proofs.Common.{ℕ, sym, ◌∙◌}
+use Rattle.std.proofs.Common.{sym, ◌∙◌}
 use Rattle.dap_tables.specs.declared.entry.Entry.{Entry}
 use Rattle.dap_outbox.specs.Draft.{explained}
 use Rattle.dap_outbox.specs.Outbox.{explanation_fits_as}
@@ -11,7 +11,7 @@ loop-request-preserved-in-Continue-1 c =
     let i = c.loop-request.invariant in
     let e = c.in-Some.ensures.steps in
     let is = sym c.is_chosen.ensures ∙ c.if-is_chosen.true in
-    let passes = λ (seq : ℕ). is_chosen c.args.which c.args.kept.now.kept seq in
+    let passes = λ (r : Entry). is_chosen c.args.which c.args.kept.now.kept r in
     record {
       room = rw c.in_ok-explain.ensures.writes.last (room-answered passes _ _ _ _ _ _ e is c.in_ok-explain.ensures.writes.given i.room);
       last = rw c.in_ok-explain.ensures.writes.last i.last;
@@ -25,7 +25,7 @@ loop-request-preserved c =
     let i = c.loop-request.invariant in
     let e = c.in-Some.ensures.steps in
     let is = sym c.is_chosen.ensures ∙ c.if-is_chosen.false in
-    let passes = λ (seq : ℕ). is_chosen c.args.which c.args.kept.now.kept seq in
+    let passes = λ (r : Entry). is_chosen c.args.which c.args.kept.now.kept r in
     record {
       room = room-passed passes _ _ _ _ c.in-Some.request.now e is i.room;
       last = i.last;

@@ -9,8 +9,8 @@ invariant-loop-request l = record {
   room : l.outbox.numbers.used + length (chosen_of l.fn.which l.fn.kept.kept l.requests) ≤ l.outbox.numbers.last;
   last : l.outbox.numbers.last ≤ l.fn.last;
   fits : IsTrue (explanations_fit l.fn.last l.fn.most l.fn.told (chosen_of l.fn.which l.fn.kept.kept l.requests));
-  goes : (final : OutboxState) → WritesWithin l.fn.most l.outbox final (answer_where (λ seq. is_chosen l.fn.which l.fn.kept.kept seq) (explained l.fn.told) l.requests)
-      → WritesWithin l.fn.most l.initial.outbox final (answer_where (λ seq. is_chosen l.fn.which l.fn.kept.kept seq) (explained l.fn.told) l.initial.requests);
+  goes : (final : OutboxState) → WritesWithin l.fn.most l.outbox final (answer_where (λ r. is_chosen l.fn.which l.fn.kept.kept r) (explained l.fn.told) l.requests)
+      → WritesWithin l.fn.most l.initial.outbox final (answer_where (λ r. is_chosen l.fn.which l.fn.kept.kept r) (explained l.fn.told) l.initial.requests);
   before : l.outbox.before ≡ l.initial.outbox.before;
 }
 

@@ -1,5 +1,4 @@
-use Rattle.std.proofs.Common.{◌+◌, ◌∙◌, sym, ap, subst}
-use Rattle.dap_message.specs.Lengths.{event_within}
+use Rattle.std.proofs.Common.{◌+◌, ◌∙◌, sym, subst}
 use Rattle.dap_message.specs.MessageParts.{AdapterEvent}
 use Rattle.dap_outbox.specs.Draft.{emit}
 use Rattle.dap_outbox.specs.Outbox.{OutboxState, AppendsDraft, event_of}

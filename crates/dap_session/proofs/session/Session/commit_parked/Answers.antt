@@ -5,4 +5,4 @@ use Rattle.dap_session.proofs.session.Session.commit_parked.Goals as goal
 
 pub invariant_of-self : goal.invariant_of-self
 invariant_of-self g c =
-    session-settled _ _ _ _ _ _ _ _ c.args.seq c.self.invariant c.take.ensures.others c.take.ensures.orderly c.clear_parked.ensures.others c.clear_parked.ensures.orderly (ap (λ (n : Numbers). n.last) c.numbers-self-inside.ensures.numbers ∙ (rw (← c.self.view_is) at c.requires.last)) c.numbers-self-inside.ensures.used
+    session-settled _ _ _ _ _ _ _ _ c.args.seq c.self.invariant c.take.ensures.others c.take.ensures.orderly c.clear_starting.ensures.others c.clear_starting.ensures.orderly (ap (λ (n : Numbers). n.last) c.numbers-self-inside.ensures.numbers ∙ (rw (← c.self.view_is) at c.requires.last)) c.numbers-self-inside.ensures.used

@@ -28,6 +28,6 @@ returns-clause-holds g c =
     each-done c.reply.result _ _
     (λ w. holds-after_disconnect c.args.self.now.session c.args.request.now c.args.out.now c.answer_chosen.new.outbox _ _
     c.begin.ensures.holds
-    (subst (λ (x : SessionState _). WritesAll c.args.out.now c.answer_chosen.new.outbox (answer_where (λ n. not (n == c.args.request.now.seq)) (failure Cancelled) (entries x.session.kept))) c.self.view_is c.in_ok-answer_chosen.ensures.writes)
+    (subst (λ (x : SessionState _). WritesAll c.args.out.now c.answer_chosen.new.outbox (answer_where (λ r. not (r.seq == c.args.request.now.seq)) (failure Cancelled) (entries x.session.kept))) c.self.view_is c.in_ok-answer_chosen.ensures.writes)
     w)
     c.reply.ensures.writes

@@ -1,8 +1,7 @@
-use Rattle.std.proofs.Common.{◌≡◌, [], ◌∷◌, ◌∙◌, true, Option, Some, subst}
+use Rattle.std.proofs.Common.{◌≡◌, [], ◌∷◌, ◌∙◌, Option, Some, subst}
 use Rattle.serde_json.specs.Data.{Data}
 use Rattle.dap_body.specs.Body.{data_in}
 use Rattle.dap_body.specs.ResponseBody.{offer_body}
-use Rattle.dap_message.specs.Lengths.{offer_fits}
 use Rattle.dap_outbox.specs.Draft.{reply, success}
 use Rattle.dap_outbox.specs.Outbox.{Holds, IsAnswerWithin}
 use Rattle.dap_session.proofs.Outboxes.{each-done, offer-within, offer-holds}

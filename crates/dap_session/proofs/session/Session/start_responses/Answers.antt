@@ -1,4 +1,3 @@
-use Rattle.dap_plan.specs.SessionState.{SessionState}
 use Rattle.dap_session.specs.PrivateReplies.{reply_of}
 use Rattle.dap_session.proofs.Disconnects.{room-started, holds-started}
 use Rattle.dap_session.proofs.Outboxes.{each-done}

@@ -13,6 +13,6 @@ returns-in-Ok-clause-limits g c = turned-limits g.D.Debuggee.shown g.D.Debuggee.
 pub returns-in-Ok-clause-fewer : goal.returns-in-Ok-clause-fewer
 returns-in-Ok-clause-fewer g c = λ yes. turned-fewer g.D.Debuggee.shown g.D.Debuggee.follows _ _ _ (rw (← c.self.view_is) c.self.invariant.orderly.distinct) (returns-in-Ok-clause-done g c yes)
 
-pub returns-in-Err-handle_copy-clause-refused : goal.returns-in-Err-handle_copy-clause-refused
-returns-in-Err-handle_copy-clause-refused g c =
-    not_turned g.D.Debuggee.shown c.in-Err-handle_copy.fault _ _ c.in-Ok-Some.request (rw c.in-Ok-Some.field-0-is at c.in-Ok-Some.ensures.oldest) c.in-Err-handle_copy.ensures.refused
+pub returns-in-Err-handle_any-clause-refused : goal.returns-in-Err-handle_any-clause-refused
+returns-in-Err-handle_any-clause-refused g c =
+    not_turned g.D.Debuggee.shown c.in-Err-handle_any.fault _ _ c.in-Ok-Some.request (rw c.in-Ok-Some.field-0-is at c.in-Ok-Some.ensures.oldest) c.in-Err-handle_any.ensures.refused
