@@ -6,6 +6,7 @@ thread goes on in `asked_moves.py`.
 """
 import base64
 import binascii
+import contextlib
 import re
 
 import gdb
@@ -57,10 +58,7 @@ class Asked(AskedPoints, AskedMoves):
             raise Refusal("notStopped", "The program runs: frameId is of no stop.")
         if not text or text[-1].isspace():
             return {"targets": []}
-        if self.adapter.stands():
-            with self.adapter.debuggee.looking(self.frame(arguments)):
-                listed = gdb.execute("complete print " + text, to_string=True)
-        else:
+        with self.adapter.debuggee.looking(self.frame(arguments)) if self.adapter.stands() else contextlib.nullcontext():
             listed = gdb.execute("complete print " + text, to_string=True)
         begin = WORD.search(text).start()
         return {"targets": [self.completion(word, text, begin) for word in words_in(listed, text[:begin])]}
@@ -152,6 +150,7 @@ class Asked(AskedPoints, AskedMoves):
         if not first <= last < first + MOST_LINES:
             raise bad("endLine")
         return {"breakpoints": [{"line": self.line(line)} for line in lines_with_code(path, first, last)]}
+
 
 def words_in(listed, before):
     """What gdb's list of completions has behind this text, each once."""
