@@ -17,7 +17,7 @@ FILES = [
     ("dap_c", "write"),
     ("dap_c", "heading"), ("dap_c", "check"), ("dap_c", "client_handle"), ("dap_c", "client"), ("dap_c", "client_state"),
     ("dap_c", "layout"), ("dap_c_adapter", "adapter_handle"), ("dap_c_adapter", "adapter"), ("dap_c_adapter", "telling"), ("dap_c_adapter", "beside"), ("dap_c_adapter", "output"), ("dap_c_adapter", "no_value"),
-    ("dap_c_adapter", "ahead"), ("dap_c_adapter", "emitting"), ("dap_c_adapter", "lending"), ("dap_c_adapter", "acts"),
+    ("dap_c_adapter", "ahead"), ("dap_c_adapter", "emitting"), ("dap_c_adapter", "lending"), ("dap_c_adapter", "asking"), ("dap_c_adapter", "acts"),
     ("dap_c_adapter", "adapter_state"), ("dap_c_adapter", "adapter_layout"),
 ]
 # what tells the sizes of the structs of a crate, and that crate's name in it

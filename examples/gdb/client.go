@@ -126,6 +126,22 @@ func evaluation(text string, frame int) *dap.EvaluateRequest {
 	return &dap.EvaluateRequest{Arguments: dap.EvaluateArguments{Expression: text, FrameId: frame, Context: "watch"}}
 }
 
+// opened asks for what the adapter answers by its name, in a stop with this frame and this pointer to {3, 4}.
+func (c *client) opened(can dap.Capabilities, top dap.StackFrame, pointer dap.Variable) {
+	expect("opened", "true true true true", can.SupportsCompletionsRequest, can.SupportsModulesRequest, can.SupportsReadMemoryRequest,
+		can.SupportsDisassembleRequest)
+	typed := dap.CompletionsArguments{FrameId: top.Id, Text: "1 + shap", Column: 9}
+	targets := ask[*dap.CompletionsResponse](c, "completions", &dap.CompletionsRequest{Arguments: typed}).Body.Targets
+	expect("completions", "shape 5 4", targets[0].Label, targets[0].Start, targets[0].Length)
+	all := dap.ReadMemoryArguments{MemoryReference: pointer.MemoryReference, Count: 8}
+	expect("memory", "AwAAAAQAAAA=", ask[*dap.ReadMemoryResponse](c, "readMemory", &dap.ReadMemoryRequest{Arguments: all}).Body.Data)
+	two := dap.DisassembleArguments{MemoryReference: top.InstructionPointerReference, InstructionCount: 2}
+	code := ask[*dap.DisassembleResponse](c, "disassemble", &dap.DisassembleRequest{Arguments: two}).Body.Instructions
+	expect("instructions", "2 true", len(code), code[0].Address == top.InstructionPointerReference)
+	modules := ask[*dap.ModulesResponse](c, "modules", &dap.ModulesRequest{}).Body
+	expect("modules", "true", modules.TotalModules == len(modules.Modules) && len(modules.Modules) > 0)
+}
+
 func (c *client) session(program, source string) {
 	text, err := os.ReadFile(source)
 	must(err)
@@ -164,6 +180,7 @@ func (c *client) session(program, source string) {
 	refused := ask[*dap.ErrorResponse](c, "evaluate", evaluation("nothing + 1", top.Id))
 	expect("evaluate what is not there", "debuggee {why}", refused.Message, refused.Body.Error.Format)
 	expect("why", `No symbol "nothing" in current context.`, refused.Body.Error.Variables["why"])
+	c.opened(can, top, shape["first"])
 	change := dap.SetVariableArguments{VariablesReference: corners["[0]"].VariablesReference, Name: "x", Value: "7 + shape.first->x"}
 	changed := ask[*dap.SetVariableResponse](c, "setVariable", &dap.SetVariableRequest{Arguments: change}).Body.Value
 	expect("set a part", "10", changed)

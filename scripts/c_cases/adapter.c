@@ -1,6 +1,7 @@
 /* The adapter's end over a debuggee that this program feeds: a session with breakpoints, a stop, variables that are told later,
  * a value that is set, an exit, events by their names; one with breakpoints that move, a start that is refused, and long output; one
- * with commands that this program answers; what a host says out of turn; and each allocation refused in turn, as in refused.c. */
+ * with commands that this program answers, and one with requests that it asks; what a host says out of turn; and each allocation
+ * refused in turn, as in refused.c. */
 #include "refusing.h"
 
 static const char BASE[] = "{\"sources\":[{\"name\":\"a.c\",\"path\":\"/w/a.c\",\"text\":\"1\\n2\\n3\\n4\\n\"}]}";
@@ -354,6 +355,84 @@ static int answers(void) {
     return 1;
 }
 
+/* Asks the client. A request that is refused memory has changed nothing, and is asked once more. */
+static uint32_t ask(const char *command, const char *arguments, uint64_t *seq) {
+    uint32_t code = yt_adapter_ask(&adapter, BYTES(command), BYTES(arguments), seq, &found);
+    if (code == YT_NO_MEMORY) {
+        CHECK(met > 0 && found.bytes == 0);
+        code = yt_adapter_ask(&adapter, BYTES(command), BYTES(arguments), seq, &found);
+    }
+    written[0] = 0;
+    write_out();
+    return code;
+}
+
+/* Whether a request is refused for this, with no number told and nothing to be written. */
+static int is_refused(uint32_t code, const char *command, const char *arguments) {
+    uint64_t seq = 77;
+    return ask(command, arguments, &seq) == code && seq == 77 && !written[0];
+}
+
+static int wait(size_t wanted) {
+    size_t count = 77;
+    return yt_adapter_asked_by_name(&adapter, &count) == YT_OK && count == wanted;
+}
+
+#include "ask_for_child.h"
+
+/* As docs/C.md asks, and as it looks for the response. Where memory is refused it is asked once more. */
+static int asks_for_child(void) {
+    bool done = false;
+    uint8_t frame[512];
+    written[0] = 0;
+    uint64_t seq = ask_for_child(&adapter);
+    if (seq == 0) {
+        CHECK(met > 0);
+        seq = ask_for_child(&adapter);
+    }
+    CHECK(seq == 3 && wait(1));
+    CHECK(has("{\"arguments\":{\"configuration\":{\"pid\":7},\"request\":\"attach\"},\"command\":\"startDebugging\",\"seq\":3,\"type\":\"request\"}"));
+    if (!take_in("{\"seq\":2,\"type\":\"request\",\"command\":\"disconnect\",\"arguments\":{\"restart\":false}}")) return 0;
+    CHECK(yt_adapter_frame(&adapter, frame, sizeof frame) == YT_OK && !is_response(frame, found.frame, seq, &done) && wait(1));
+    if (!take_in("{\"seq\":3,\"type\":\"response\",\"request_seq\":3,\"success\":true,\"command\":\"startDebugging\"}")) return 0;
+    CHECK(yt_adapter_frame(&adapter, frame, sizeof frame) == YT_OK && wait(0));
+    bool is = is_response(frame, found.frame, seq, &done);
+    if (!is) {
+        CHECK(met > 0);
+        is = is_response(frame, found.frame, seq, &done);
+    }
+    CHECK(is && done && !is_response(frame, found.frame, 4, &done));
+    return handle();
+}
+
+/* An adapter of few and short requests: four that may be kept, bodies of 2048 bytes, seven numbers. */
+static int asks(void) {
+    static const char *bad[] = {"null", "0.5", "{", "{} {}", "[1e0]", "\xff"};
+    static char name[66], much[2048];
+    uint64_t seq = 0;
+    memset(name, 'n', 65);
+    memset(much, 'x', sizeof much - 1);
+    much[0] = much[sizeof much - 2] = '"';
+    CHECK(is_refused(YT_WRONG_PHASE, "mine", "") && is_refused(YT_WRONG_PHASE, name, "") && is_refused(YT_BAD_ARGUMENTS, "mine", "null"));
+    if (!hear("{\"seq\":1,\"type\":\"request\",\"command\":\"initialize\",\"arguments\":{\"adapterID\":\"x\"}}")) return 0;
+    for (size_t n = 0; n < sizeof bad / sizeof *bad; n++) CHECK(is_refused(YT_BAD_ARGUMENTS, "mine", bad[n]));
+    CHECK(is_refused(YT_BAD_ARGUMENTS, "\xff", "") && is_refused(YT_BAD_NAME, name, "") && wait(0));
+    CHECK(is_refused(YT_TOO_LARGE, "mine", much) && wait(0));
+    CHECK(ask("startDebugging", "{\"request\":\"launch\",\"configuration\":{}}", &seq) == YT_OK && seq == 3 && wait(1));
+    CHECK(has("{\"arguments\":{\"configuration\":{},\"request\":\"launch\"},\"command\":\"startDebugging\",\"seq\":3,\"type\":\"request\"}"));
+    CHECK(ask("mine", "", &seq) == YT_OK && seq == 4 && has("{\"command\":\"mine\",\"seq\":4,\"type\":\"request\"}"));
+    CHECK(ask(name + 1, "7", &seq) == YT_OK && seq == 5 && has("{\"arguments\":7,\"command\":\"nnnn") && wait(3));
+    CHECK(is_refused(YT_FULL, "mine", "") && is_refused(YT_BAD_NAME, name, "") && is_refused(YT_FULL, "mine", much));
+    if (!hear("{\"seq\":2,\"type\":\"response\",\"request_seq\":4,\"success\":false,\"command\":\"mine\",\"message\":\"notNow\"}")) return 0;
+    CHECK(!written[0] && wait(2));
+    CHECK(ask("", "[]", &seq) == YT_OK && seq == 6 && has("{\"arguments\":[],\"command\":\"\",\"seq\":6,\"type\":\"request\"}") && wait(3));
+    if (!hear("{\"seq\":3,\"type\":\"response\",\"request_seq\":3,\"success\":true,\"command\":\"startDebugging\"}")) return 0;
+    CHECK(ask("mine", "", &seq) == YT_OK && seq == 7);
+    if (!hear("{\"seq\":4,\"type\":\"response\",\"request_seq\":7,\"success\":true,\"command\":\"mine\",\"body\":{}}")) return 0;
+    CHECK(is_refused(YT_SEQ_EXHAUSTED, "mine", "") && is_refused(YT_TOO_LARGE, "mine", much) && wait(2));
+    return 1;
+}
+
 static void open_adapter(void) {
     yt_limits limits;
     yt_limits_usual(&limits);
@@ -391,6 +470,41 @@ static void third_session(void) {
     }
     CHECK(code == YT_OK);
     if (answers()) answers_in_turn();
+    yt_adapter_free(&adapter);
+}
+
+static uint32_t open_small(void) {
+    yt_limits limits;
+    yt_limits_usual(&limits);
+    limits.requests = 4;
+    limits.body = 2048;
+    limits.seq = 7;
+    return yt_adapter_open(&adapter, &limits, BYTES(BASE));
+}
+
+static void fourth_session(void) {
+    open_adapter();
+    if (hear("{\"seq\":1,\"type\":\"request\",\"command\":\"initialize\",\"arguments\":{\"adapterID\":\"x\"}}")) asks_for_child();
+    uint32_t code = open_small();
+    if (code == YT_NO_MEMORY) {
+        CHECK(!adapter.full);
+        code = open_small();
+    }
+    CHECK(code == YT_OK);
+    asks();
+    yt_adapter_free(&adapter);
+}
+
+/* A response that names another command, or that nothing was asked for. */
+static void answers_wrongly(const char *body, uint32_t fault, size_t waits) {
+    uint8_t frame[512];
+    uint64_t seq = 77;
+    open_adapter();
+    CHECK(hear("{\"seq\":1,\"type\":\"request\",\"command\":\"initialize\",\"arguments\":{\"adapterID\":\"x\"}}"));
+    CHECK(ask("mine", "", &seq) == YT_OK && seq == 3);
+    int size = snprintf((char *)frame, sizeof frame, "Content-Length: %zu\r\n\r\n%s", strlen(body), body);
+    CHECK(yt_adapter_take(&adapter, frame, (size_t)size, &found) == fault && wait(waits));
+    CHECK(is_refused(YT_ENDED, "mine", "") && is_refused(YT_BAD_ARGUMENTS, "mine", "null"));
     yt_adapter_free(&adapter);
 }
 
@@ -434,6 +548,8 @@ static void nothing_is_held(void) {
     yt_lent lent;
     uint8_t out[1];
     uint32_t line[1];
+    uint64_t seq = 77;
+    size_t count = 77;
     CHECK(yt_adapter_open(&adapter, &limits, BYTES("{}")) == YT_BAD_RECORDING && !adapter.full);
     CHECK(yt_adapter_take(&adapter, BYTES("x"), &found) == YT_NONE && yt_adapter_turn(&adapter, &found) == YT_NONE);
     CHECK(yt_adapter_bytes(&adapter, out, 1) == YT_NONE && yt_adapter_frame(&adapter, out, 1) == YT_NONE);
@@ -455,6 +571,8 @@ static void nothing_is_held(void) {
     CHECK(yt_adapter_state(&adapter, &seen) == YT_NONE && yt_adapter_target(&adapter, 1, &target) == YT_NONE);
     CHECK(yt_adapter_lent(&adapter, 0, &lent) == YT_NONE && yt_adapter_lent_command(&adapter, 0, out, 1) == YT_NONE);
     CHECK(yt_adapter_respond(&adapter, 1, true, BYTES(""), BYTES(""), &found) == YT_NONE);
+    CHECK(yt_adapter_ask(&adapter, BYTES("mine"), BYTES(""), &seq, &found) == YT_NONE && seq == 77);
+    CHECK(yt_adapter_asked_by_name(&adapter, &count) == YT_NONE && count == 77);
     yt_adapter_free(&adapter);
     CHECK(yt_adapter_open_with(&adapter, &limits, BYTES(BASE), BYTES("{\"supportsStepBack\":false,\"supportsLogPoints\":true}")) == YT_OK);
     CHECK(yt_adapter_open_with(&adapter, &limits, BYTES(BASE), BYTES("{\"supportsRestartFrame\":true}")) == YT_BAD_ARGUMENTS && !adapter.full);
@@ -495,8 +613,11 @@ static void nothing_is_held(void) {
 int main(void) {
     nothing_is_held();
     pieces();
+    answers_wrongly("{\"seq\":2,\"type\":\"response\",\"request_seq\":3,\"success\":true,\"command\":\"yours\"}", YT_COMMAND_MISMATCH, 1);
+    answers_wrongly("{\"seq\":2,\"type\":\"response\",\"request_seq\":4,\"success\":true,\"command\":\"mine\"}", YT_UNMATCHED, 1);
     refuse_each("first session", first_session);
     refuse_each("second session", second_session);
     refuse_each("third session", third_session);
+    refuse_each("fourth session", fourth_session);
     return wrong != 0;
 }

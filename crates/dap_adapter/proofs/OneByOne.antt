@@ -10,6 +10,7 @@ use Rattle.dap_frame.specs.declared.limits.Bounds.{Bounds}
 use Rattle.dap_plan.specs.Carried.{Goes}
 use Rattle.dap_plan.specs.SessionState.{SessionState}
 use Rattle.dap_adapter.specs.AdapterState.{AdapterState, state_of}
+use Rattle.dap_plan.specs.Asking.{asks_named}
 use Rattle.dap_plan.specs.Emitting.{emits}
 use Rattle.dap_plan.specs.Responding.{responds}
 use Rattle.dap_adapter.specs.Calls.{Step, Exchanges}
@@ -124,5 +125,6 @@ one_by_one shown follows written one within = record {
   told = λ old new before after at polls. told_between shown follows one old at new before after polls;
   emitted = λ old new name body bytes at e. stepped_between shown follows one old at new (emits name body old.session) bytes e.intake e.step;
   responded = λ old new seq o bytes at e. stepped_between shown follows one old at new (responds e.entry o old.session) bytes e.intake e.step;
+  asked = λ old new command arguments bytes at e. stepped_between shown follows one old at new (asks_named command arguments old.session) bytes e.intake e.step;
   exchanged = λ old new at e. exchanged_between shown old new at e;
 }

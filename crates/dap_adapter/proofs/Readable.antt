@@ -1,4 +1,4 @@
--- What an adapter answers is in range: each response answers a request that came, and each that came was read.
+-- What an adapter writes is in range: each response answers a request that came, and each that came was read; each request that it asks by a name has one in range.
 use Rattle.std.proofs.Common.{◌≡◌, ℕ, ◌+◌, ◌≤◌, List, [], ◌∷◌, ◌++◌, Bool, true, false, length, filter, refl, sym, ap, ◌∙◌, subst, append_assoc, arith}
 use Rattle.std.specs.Prelude.{◌==◌, cond}
 use Rattle.std.specs.List.{AllByRecursion}
@@ -16,8 +16,9 @@ use Rattle.dap_envelope.specs.declared.message.Kind.TheVariants.{Request, Respon
 use Rattle.dap_tables.specs.declared.entry.Entry.{Entry as Kept}
 use Rattle.dap_message.specs.declared.outcome.Outcome.TheVariants.{Success, Failure}
 use Rattle.dap_outbox.specs.InRange.{IsRequestInRange, AnswersInRange}
+use Rattle.dap_plan.specs.Laws.{AskNoneByName}
 use Rattle.dap_plan.specs.Plan.{Made, references_end_if, entries_of}
-use Rattle.dap_outbox.specs.Draft.{Answer, success, failure, explained, came_out, Draft, reply, emit, ask, message_of, names_of, numbered_messages, outs}
+use Rattle.dap_outbox.specs.Draft.{Answer, success, failure, explained, came_out, Draft, reply, emit, ask, ask_named, message_of, names_of, numbered_messages, outs}
 use Rattle.dap_adapter.specs.AdapterState.{AdapterState}
 use Rattle.dap_adapter.specs.StandsFor.{StandsFor, GoesOn}
 
@@ -102,33 +103,51 @@ answer-in-range n r (came_out (Failure message body)) qs a w = answered-in-range
 moved : (before : List Entry) (e : Entry) (after all : List Entry) → before ++ e ∷ after ≡ all → (before ++ e ∷ []) ++ after ≡ all
 moved before e after all is = append_assoc before (e ∷ []) after ∙ is
 
-drafts-in-range : (all : List Entry) → AreMessagesInRange (ins_of all) → Answers Came all → (before : List Entry) (used : ℕ) (ds : List Draft) → before ++ outs used ds ≡ all → AnswersInRange ds
-drafts-in-range all came answers before used [] is = tt
-drafts-in-range all came answers before used (reply r answer ∷ ds) is =
+-- the names of requests of whoever holds the adapter
+abbrev pub NamesInRange : List Draft → Type 0
+NamesInRange [] = Unit {0}
+NamesInRange (reply r answer ∷ ds) = NamesInRange ds
+NamesInRange (emit event ∷ ds) = NamesInRange ds
+NamesInRange (ask ∷ ds) = NamesInRange ds
+NamesInRange (ask_named command arguments ∷ ds) = (length command ≤ max_command) × NamesInRange ds
+
+pub none-in-range : (ds : List Draft) → AskNoneByName ds → NamesInRange ds
+none-in-range [] n = tt
+none-in-range (reply r answer ∷ ds) n = none-in-range ds n
+none-in-range (emit event ∷ ds) n = none-in-range ds n
+none-in-range (ask ∷ ds) n = none-in-range ds n
+none-in-range (ask_named command arguments ∷ ds) n = absurd n
+
+drafts-in-range : (all : List Entry) → AreMessagesInRange (ins_of all) → Answers Came all → (before : List Entry) (used : ℕ) (ds : List Draft) → NamesInRange ds → before ++ outs used ds ≡ all → AnswersInRange ds
+drafts-in-range all came answers before used [] n is = tt
+drafts-in-range all came answers before used (reply r answer ∷ ds) n is =
     let e : Entry = Out (message_of (used + 1) (reply r answer)) (names_of (reply r answer)) in
     let first = ins-front before (e ∷ outs (used + 1) ds) (subst (λ (h : List Entry). AreMessagesInRange (ins_of h)) (sym is) came) in (
       answer-in-range (used + 1) r answer (waiting Came before) (waiting-in-range before first) (answers before e (outs (used + 1) ds) is),
-      drafts-in-range all came answers (before ++ e ∷ []) (used + 1) ds (moved before e (outs (used + 1) ds) all is),
+      drafts-in-range all came answers (before ++ e ∷ []) (used + 1) ds n (moved before e (outs (used + 1) ds) all is),
     )
-drafts-in-range all came answers before used (emit event ∷ ds) is =
+drafts-in-range all came answers before used (emit event ∷ ds) n is =
     let e : Entry = Out (message_of (used + 1) (emit event)) (names_of (emit event)) in
-    (tt, drafts-in-range all came answers (before ++ e ∷ []) (used + 1) ds (moved before e (outs (used + 1) ds) all is))
-drafts-in-range all came answers before used (ask ∷ ds) is =
+    (tt, drafts-in-range all came answers (before ++ e ∷ []) (used + 1) ds n (moved before e (outs (used + 1) ds) all is))
+drafts-in-range all came answers before used (ask ∷ ds) n is =
     let e : Entry = Out (message_of (used + 1) ask) (names_of ask) in
-    (tt, drafts-in-range all came answers (before ++ e ∷ []) (used + 1) ds (moved before e (outs (used + 1) ds) all is))
+    (tt, drafts-in-range all came answers (before ++ e ∷ []) (used + 1) ds n (moved before e (outs (used + 1) ds) all is))
+drafts-in-range all came answers before used (ask_named command arguments ∷ ds) n is =
+    let e : Entry = Out (message_of (used + 1) (ask_named command arguments)) (names_of (ask_named command arguments)) in
+    (n.0, drafts-in-range all came answers (before ++ e ∷ []) (used + 1) ds n.1 (moved before e (outs (used + 1) ds) all is))
 
 parts : (h came drops entries : List Entry) → (h ++ (came ++ drops)) ++ entries ≡ h ++ (came ++ (drops ++ entries))
 parts h came drops entries = append_assoc h (came ++ drops) entries ∙ ap (λ (es : List Entry). h ++ es) (append_assoc came drops entries)
 
 -- ---- a step
 
-made-in-range : {D : Type 0} → ReadIsInRange → (e : AdapterState D) (s : List ℕ) (h came : List Entry) (used : ℕ) (m : Made) → StandsFor e s (h ++ (came ++ entries_of used m)) → AnswersInRange m.drafts
-made-in-range law e s h came used m st =
+made-in-range : {D : Type 0} → ReadIsInRange → (e : AdapterState D) (s : List ℕ) (h came : List Entry) (used : ℕ) (m : Made) → NamesInRange m.drafts → StandsFor e s (h ++ (came ++ entries_of used m)) → AnswersInRange m.drafts
+made-in-range law e s h came used m n st =
     drafts-in-range (h ++ (came ++ entries_of used m)) (read-in-range law st.received.bodies (ins_of (h ++ (came ++ entries_of used m))) st.received.read) st.session.answers
-    (h ++ (came ++ references_end_if m.drops)) used m.drafts (parts h came (references_end_if m.drops) (outs used m.drafts))
+    (h ++ (came ++ references_end_if m.drops)) used m.drafts n (parts h came (references_end_if m.drops) (outs used m.drafts))
 
--- an adapter that stands for some history after the step answered requests in range
-pub step-reads : {D : Type 0} → ReadIsInRange → (old new : AdapterState D) (used : List ℕ) (came : List Entry) (m : Made) → GoesOn old new used (came ++ entries_of old.session.used m)
+-- an adapter that stands for some history after the step wrote messages in range
+pub step-reads : {D : Type 0} → ReadIsInRange → (old new : AdapterState D) (used : List ℕ) (came : List Entry) (m : Made) → NamesInRange m.drafts → GoesOn old new used (came ++ entries_of old.session.used m)
     → (AnswersInRange m.drafts → AllReadBack old.session.limits.body (numbered_messages old.session.used m.drafts))
     → (s : List ℕ) (h : List Entry) → StandsFor old s h → AllReadBack old.session.limits.body (numbered_messages old.session.used m.drafts)
-step-reads law old new used came m goes reads s h st = reads (made-in-range law new (s ++ used) h came old.session.used m (goes s h st))
+step-reads law old new used came m n goes reads s h st = reads (made-in-range law new (s ++ used) h came old.session.used m n (goes s h st))

@@ -20,7 +20,7 @@ use Rattle.dap_adapter.specs.AdapterState.{AdapterState, state_of}
 use Rattle.dap_adapter.specs.PrivateReceives.{HasReceived}
 use Rattle.dap_adapter.specs.StandsFor.{GoesOn}
 use Rattle.dap_adapter.proofs.Adapting.{orderly}
-use Rattle.dap_adapter.proofs.Readable.{step-reads}
+use Rattle.dap_adapter.proofs.Readable.{none-in-range, step-reads}
 
 -- the frame is still under way
 waits-goes_on : {D : Type 0} (old new : AdapterState D) (piece : List ℕ) (n : ℕ) → Gathers old.intake new.intake piece n → new.session ≡ old.session → new.fault ≡ None → GoesOn old new piece []
@@ -97,6 +97,6 @@ received grow ranges laws within follows old new from to piece used bytes (Some 
         bytes_are = has.carries.tells.bytes_are;
         goes_on = goes;
         went = λ h. grow.outs_append h (In m ∷ entries_of old.session.used step.made) ∙ ap (λ (ms : List Message). outs_of h ++ ms) (laws.all_go old.session.used step.made);
-        reads_back = step-reads ranges old new (take used piece) (In m ∷ []) step.made goes has.carries.tells.reads_back;
+        reads_back = step-reads ranges old new (take used piece) (In m ∷ []) step.made (none-in-range step.made.drafts (laws.by_name.take old.session m has.plan step.made has.is can)) goes has.carries.tells.reads_back;
       };
     }

@@ -1,5 +1,5 @@
 -- Why a call on a piece is refused, from what the session says.
-use Rattle.std.proofs.Common.{◌≡◌, ◌≢◌, ℕ, ◌+◌, List, Bool, true, false, nat_le, Result, Ok, Err, refl, sym, ap, subst, inl, inr, if◌then◌else◌}
+use Rattle.std.proofs.Common.{◌≡◌, ◌≢◌, ℕ, ◌+◌, List, Bool, true, false, nat_le, Option, None, Some, Result, Ok, Err, refl, sym, ap, subst, inl, inr, if◌then◌else◌}
 use Rattle.std.specs.Prelude.{not, bytes_eq}
 use Rattle.dap_frame.specs.Feeds.{Completes}
 use Rattle.dap_frame.specs.Intake.{Intake}
@@ -9,7 +9,7 @@ use Rattle.dap_envelope.specs.declared.message.Message.{Message}
 use Rattle.dap_envelope.specs.declared.message.Kind.{Kind}
 use Rattle.dap_envelope.specs.declared.message.Kind.TheVariants.{Request, Response, Event, Other}
 use Rattle.dap_tables.specs.declared.entry.Entry.{Entry}
-use Rattle.dap_tables.specs.Outstanding.{contains_seq}
+use Rattle.dap_tables.specs.Outstanding.{contains_seq, entry_with}
 use Rattle.dap_plan.specs.declared.fault.AdapterFault.{AdapterFault}
 use Rattle.dap_plan.specs.declared.fault.AdapterFault.TheVariants.{SeqExhausted, OutOfMemory, Frame, Body, RepeatedSeq, Unmatched, CommandMismatch, Ended}
 use Rattle.dap_decision.specs.declared.phase.Phase.TheVariants as phase
@@ -18,7 +18,7 @@ use Rattle.dap_plan.specs.Plan.{Made, Plan, at_once, messages_due, plan_within_n
 use Rattle.dap_plan.specs.SessionState.{SessionState, NotTaken, IsUnasked}
 use Rattle.dap_plan.specs.Session.{Session, is_asked}
 use Rattle.dap_decision.specs.Table.{is_phase}
-use Rattle.dap_plan.specs.Taking.{takes, takes_as, after_taking, after_late_terminal, plan_of_response, plan_of_terminal}
+use Rattle.dap_plan.specs.Taking.{takes, takes_as, after_taking, after_late_terminal, after_own_response, takes_response_of, plan_of_response, plan_of_terminal}
 use Rattle.dap_reader.specs.Reader.{IsRefused as IsUnreadPiece}
 use Rattle.dap_reader.specs.declared.fault.ReadFault.{ReadFault}
 use Rattle.dap_reader.specs.declared.fault.ReadFault.TheVariants as read
@@ -50,12 +50,21 @@ of_response false b c seq plan fault e = let is : Unmatched seq ≡ fault = cc i
 of_response true false c seq plan fault e = let is : CommandMismatch seq ≡ fault = cc in subst IsOfSession is tt
 of_response true true c seq plan fault e = of_affordable c plan fault e
 
+of_own : (b : Bool) (seq : ℕ) (plan : Plan) (fault : AdapterFault) → (if b then Ok plan else Err (CommandMismatch seq)) ≡ Err fault → IsOfSession fault
+of_own true seq plan fault e = cc
+of_own false seq plan fault e = let is : CommandMismatch seq ≡ fault = cc in subst IsOfSession is tt
+
+of_either : (o : Option Entry) (request_seq : ℕ) (success : Bool) (command : List ℕ) (s : Session) (fault : AdapterFault) → takes_response_of o request_seq success command s ≡ Err fault → IsOfSession fault
+of_either None request_seq success command s fault e =
+    of_response (is_asked request_seq s.asked) (bytes_eq command run_in_terminal) (nat_le (s.used + messages_due (plan_of_response success s)) s.limits.seq) request_seq (plan_of_response success s) fault e
+of_either (Some r) request_seq success command s fault e = of_own (bytes_eq command r.command) request_seq (at_once (after_own_response request_seq s)) fault e
+
 of_kind : (seq : ℕ) (kind : Kind) (s : Session) (fault : AdapterFault) → takes_as seq kind s ≡ Err fault → IsOfSession fault
 of_kind seq (Request command arguments) s fault e =
     let r : Entry = record { seq = seq; command = command; arguments = arguments } in
     of_request (is_phase phase.Ended s.phase) (contains_seq seq s.kept) (nat_le (s.used + messages_due (at_once (after_taking r s))) s.limits.seq) seq (at_once (after_taking r s)) fault e
 of_kind seq (Response request_seq success command message body) s fault e =
-    of_response (is_asked request_seq s.asked) (bytes_eq command run_in_terminal) (nat_le (s.used + messages_due (plan_of_response success s)) s.limits.seq) request_seq (plan_of_response success s) fault e
+    of_either (entry_with request_seq s.own) request_seq success command s fault e
 of_kind seq (Event event body) s fault e = cc
 of_kind seq (Other tag) s fault e = cc
 
@@ -81,13 +90,22 @@ response_stays true false seq s plan m v w e u = u
 response_stays true true seq s plan m v w e u =
     at_once_stays (nat_le (s.used + messages_due (at_once m)) s.limits.seq) m v w (subst (λ (p : Plan). IsUnasked (some_plan (plan_within_numbers s p)) v w) e u)
 
+own_stays : {D : Type 0} (b : Bool) (seq : ℕ) (m : Made) (v w : D) → IsUnasked (some_plan (if b then Ok (at_once m) else Err (CommandMismatch seq))) v w → w ≡ v
+own_stays true seq m v w u = u
+own_stays false seq m v w u = u
+
+either_stays : {D : Type 0} (o : Option Entry) (request_seq : ℕ) (ok : Bool) (command : List ℕ) (s : Session) (v w : D) → is_phase phase.Asked s.phase ≡ false → IsUnasked (some_plan (takes_response_of o request_seq ok command s)) v w → w ≡ v
+either_stays None request_seq ok command s v w h u =
+    response_stays (is_asked request_seq s.asked) (bytes_eq command run_in_terminal) request_seq s (plan_of_response ok s) (after_late_terminal s) v w
+    (ap (λ (b : Bool). if b then plan_of_terminal ok s else at_once (after_late_terminal s)) h) u
+either_stays (Some r) request_seq ok command s v w h u = own_stays (bytes_eq command r.command) request_seq (after_own_response request_seq s) v w u
+
 kind_stays : {D : Type 0} (seq : ℕ) (kind : Kind) (s : Session) (v w : D) → is_phase phase.Asked s.phase ≡ false → IsUnasked (some_plan (takes_as seq kind s)) v w → w ≡ v
 kind_stays seq (Request command arguments) s v w h u =
     let r : Entry = record { seq = seq; command = command; arguments = arguments } in
     request_stays (is_phase phase.Ended s.phase) (contains_seq seq s.kept) (nat_le (s.used + messages_due (at_once (after_taking r s))) s.limits.seq) seq (after_taking r s) v w u
 kind_stays seq (Response request_seq ok command message body) s v w h u =
-    response_stays (is_asked request_seq s.asked) (bytes_eq command run_in_terminal) request_seq s (plan_of_response ok s) (after_late_terminal s) v w
-    (ap (λ (b : Bool). if b then plan_of_terminal ok s else at_once (after_late_terminal s)) h) u
+    either_stays (entry_with request_seq s.own) request_seq ok command s v w h u
 kind_stays seq (Event event body) s v w h u = u
 kind_stays seq (Other tag) s v w h u = u
 

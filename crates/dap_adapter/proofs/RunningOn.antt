@@ -18,9 +18,10 @@ use Rattle.dap_outbox.specs.Draft.{bytes_of}
 use Rattle.dap_plan.specs.Session.{Session}
 use Rattle.dap_plan.specs.SessionState.{SessionState}
 use Rattle.dap_adapter.specs.PrivateServing.{next_if}
-use Rattle.dap_adapter.specs.Parts.{MayBeHeld, RunsOn, PartsJoin, InTurn, none_made, answered, told as told_since, emitted, responded, exchanged, StandsInTurn, CallsInTurnAddUp}
+use Rattle.dap_adapter.specs.Parts.{MayBeHeld, RunsOn, PartsJoin, InTurn, none_made, answered, told as told_since, emitted, responded, asked, exchanged, StandsInTurn, CallsInTurnAddUp}
 use Rattle.dap_adapter.specs.Calls.{Step, Handled, Saw, Delivers, Waits, Takes, Exchanges}
 use Rattle.dap_plan.specs.Emitting.{emits}
+use Rattle.dap_plan.specs.Asking.{asks_named}
 use Rattle.dap_plan.specs.Responding.{responds}
 use Rattle.dap_adapter.specs.AdapterState.{AdapterState, state_of}
 use Rattle.dap_adapter.specs.StandsFor.{StandsFor}
@@ -312,6 +313,7 @@ module _ {D : Type 0} (shown : D → Shown) (follows : Goes D) where
       }
   in_turn old s h x _ _ _ (emitted used outs name body bytes m n y e) = stepped_more old m n (s ++ used) h outs (emits name body m.session) bytes (in_turn old s h x used outs m y) e.limits e.step
   in_turn old s h x _ _ _ (responded used outs seq o bytes m n y e) = stepped_more old m n (s ++ used) h outs (responds e.entry o m.session) bytes (in_turn old s h x used outs m y) e.limits e.step
+  in_turn old s h x _ _ _ (asked used outs command arguments bytes m n y e) = stepped_more old m n (s ++ used) h outs (asks_named command arguments m.session) bytes (in_turn old s h x used outs m y) e.limits e.step
   in_turn old s h x _ _ _ (exchanged used outs m n y e) = exchanged_more old m n (s ++ used) h outs (in_turn old s h x used outs m y) e
 
   pub calls_add_up : CallsInTurnAddUp shown follows

@@ -25,6 +25,8 @@ use Rattle.dap_outbox.specs.Draft.{bytes_of}
 use Rattle.dap_plan.specs.Polling.{polls, has_debuggee}
 use Rattle.dap_plan.specs.Emitting.{IsWhyNotEmitted, emit_faults, emits, first_emit_fault}
 use Rattle.dap_plan.specs.declared.fault.EmitFault.{EmitFault}
+use Rattle.dap_plan.specs.Asking.{IsWhyNotAsked, ask_faults, asks_named, first_ask_fault}
+use Rattle.dap_plan.specs.declared.fault.AskFault.{AskFault}
 use Rattle.dap_plan.specs.Responding.{IsLent, IsWhyNotResponded, first_respond_fault, respond_faults, responds}
 use Rattle.dap_plan.specs.declared.fault.RespondFault.{RespondFault}
 use Rattle.dap_message.specs.declared.outcome.Outcome.{Outcome}
@@ -178,6 +180,22 @@ pub record Responds {D : Type 0} (follows : Goes D) (seq : ℕ) (o : Outcome) (o
 -- why it was not
 abbrev pub NotResponded : {D : Type 0} → ℕ → Outcome → AdapterState D → RespondFault → Type 0
 NotResponded seq o old fault = IsWhyNotResponded fault seq o (is_some old.fault) old.session
+
+-- ---- ask
+
+-- the client was asked by a request of this name: no refusal holds, its message is written, and it is kept until the client answers it
+pub record Asks {D : Type 0} (follows : Goes D) (command : List ℕ) (arguments : Option Data) (old : AdapterState D) (bytes : List ℕ) (new : AdapterState D) : Type 0 where
+  pub free : first_ask_fault ask_faults command arguments (is_some old.fault) old.session ≡ None
+  pub intake : new.intake ≡ old.intake
+  pub fault : new.fault ≡ old.fault
+  pub debuggee : new.debuggee ≡ old.debuggee
+  pub limits : new.session.limits ≡ old.session.limits
+  pub step : Step follows (asks_named command arguments old.session) old new [] [] bytes
+  pub within : new.session.used ≤ old.session.limits.seq
+
+-- why it was not
+abbrev pub NotAsked : {D : Type 0} → List ℕ → Option Data → AdapterState D → AskFault → Type 0
+NotAsked command arguments old fault = IsWhyNotAsked fault command arguments (is_some old.fault) old.session
 
 -- ---- the same, of what a call gives
 

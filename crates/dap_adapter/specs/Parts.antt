@@ -13,7 +13,7 @@ use Rattle.dap_plan.specs.Session.{Session}
 use Rattle.dap_plan.specs.declared.fault.AdapterFault.{AdapterFault}
 use Rattle.dap_plan.specs.declared.fault.AdapterFault.TheVariants.{OutOfMemory}
 use Rattle.dap_adapter.specs.AdapterState.{AdapterState, state_of}
-use Rattle.dap_adapter.specs.Calls.{Delivers, Handled, Saw, Exchanges, TakeRefused, TurnRefused, PollRefused, Emits, Responds}
+use Rattle.dap_adapter.specs.Calls.{Delivers, Handled, Saw, Exchanges, TakeRefused, TurnRefused, PollRefused, Asks, Emits, Responds}
 use Rattle.dap_message.specs.declared.outcome.Outcome.{Outcome}
 use Rattle.serde_json.specs.Data.{Data}
 use Rattle.dap_plan.specs.Plan.{written_by}
@@ -74,13 +74,14 @@ pub record PollsOn {D : Type 0} (shown : D → Shown) (follows : Goes D) (old : 
   pub none_come : runs_on.bodies ≡ []
   pub appended : after ≡ before ++ bytes_of outs
 
--- calls of a program with a loop of its own, `answer`, `tell`, `emit`, `respond` and `exchange` in any order, over these bytes of the client, which append these messages
+-- calls of a program with a loop of its own, `answer`, `tell`, `emit`, `respond`, `ask` and `exchange` in any order, over these bytes of the client, which append these messages
 pub data InTurn {D : Type 0} (shown : D → Shown) (follows : Goes D) (old : AdapterState D) : List ℕ → List Message → AdapterState D → Type 0 where
   none_made : InTurn shown follows old [] [] old
   answered : (s used : List ℕ) (outs nows : List Message) (m n : AdapterState D) → InTurn shown follows old s outs m → RunsOn shown follows m to_take used nows n to_take → InTurn shown follows old (s ++ used) (outs ++ nows) n
   told : (s : List ℕ) (outs nows : List Message) (m n : AdapterState D) → InTurn shown follows old s outs m → RunsOn shown follows m (to_poll 0) [] nows n to_take → InTurn shown follows old s (outs ++ nows) n
   emitted : (s : List ℕ) (outs : List Message) (name : List ℕ) (body : Option Data) (bytes : List ℕ) (m n : AdapterState D) → InTurn shown follows old s outs m → (e : Emits follows name body m bytes n) → InTurn shown follows old s (outs ++ written_by m.session e.step.session.made) n
   responded : (s : List ℕ) (outs : List Message) (seq : ℕ) (o : Outcome) (bytes : List ℕ) (m n : AdapterState D) → InTurn shown follows old s outs m → (e : Responds follows seq o m bytes n) → InTurn shown follows old s (outs ++ written_by m.session e.step.session.made) n
+  asked : (s : List ℕ) (outs : List Message) (command : List ℕ) (arguments : Option Data) (bytes : List ℕ) (m n : AdapterState D) → InTurn shown follows old s outs m → (e : Asks follows command arguments m bytes n) → InTurn shown follows old s (outs ++ written_by m.session e.step.session.made) n
   exchanged : (s : List ℕ) (outs : List Message) (m n : AdapterState D) → InTurn shown follows old s outs m → Exchanges shown m n → InTurn shown follows old s outs n
 
 -- what an adapter stands for after them

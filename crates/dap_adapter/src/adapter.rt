@@ -1,11 +1,11 @@
 //! An adapter, call by call.
-ghost use Rattle.std.specs.Prelude.{◌≡◌, ◌≢◌, ℕ, List, ◌<◌, ◌≤◌, [], length, max, IfOk, IfErr, OnOk, OnErr, IfSome, Some, None, Ok, Err, IsTrue, false};
+ghost use Rattle.std.specs.Prelude.{◌≡◌, ◌≢◌, ℕ, ◌+◌, List, ◌<◌, ◌≤◌, [], length, max, IfOk, IfErr, OnOk, OnErr, IfSome, Some, None, Ok, Err, IsTrue, false};
 ghost use Rattle.dap_debuggee.specs.declared.answers.State.{State};
 ghost use Rattle.dap_frame.specs.Ends.{EndsWith};
 ghost use Rattle.dap_frame.specs.Intake.{StandsFor as StandsForStream};
 ghost use Rattle.dap_frame.specs.declared.frames.End.{End};
 ghost use Rattle.dap_plan.specs.declared.fault.AdapterFault.{AdapterFault};
-ghost use Rattle.dap_adapter.specs.Calls.{Exchanges, IdlesWithNone, KeepsDebuggee, KeepsDebuggeeUnlessAsked, NotEmitted, NotResponded, PieceNotTakenUp, PollNotMade, PollsWithNone, TakeRefused, TurnNotMade};
+ghost use Rattle.dap_adapter.specs.Calls.{Exchanges, IdlesWithNone, KeepsDebuggee, KeepsDebuggeeUnlessAsked, NotAsked, NotEmitted, NotResponded, PieceNotTakenUp, PollNotMade, PollsWithNone, TakeRefused, TurnNotMade};
 ghost use Rattle.dap_frame.specs.Closed.{StaysClosed};
 ghost use Rattle.dap_adapter.specs.PrivateReceives.{HasReceived, IsBy};
 ghost use Rattle.dap_reader.specs.declared.fault.ReadFault.{ReadFault};
@@ -30,7 +30,7 @@ use dap_history::laws::histories_grow;
 use dap_json::Tree;
 use dap_message::Outcome;
 use dap_plan::laws::{each_step_goes_on, each_step_stays_within};
-use dap_plan::{AdapterFault, EmitFault, RespondFault};
+use dap_plan::{AdapterFault, AskFault, EmitFault, RespondFault};
 use dap_reader::{MessageReader, Next, ReadFault};
 use dap_session::{Lent, Phase, Session, usual_offers};
 use dap_tables::Target;
@@ -61,7 +61,7 @@ impl<D: Debuggee + Drop> Model for Adapter<D> {
 }
 
 impl<D: Debuggee + Drop> Adapter<D> {
-    ghost use Rattle.dap_adapter.specs.Calls.{Takes, TakesUp, TurnGives, GivesTurn, Handled, LeavesFewer, Saw, Emits, Responds};
+    ghost use Rattle.dap_adapter.specs.Calls.{Takes, TakesUp, TurnGives, GivesTurn, Handled, LeavesFewer, Saw, Asks, Emits, Responds};
     ghost use Rattle.dap_adapter.specs.StandsFor.{StandsFor};
     ghost use Rattle.dap_adapter.specs.declared.taken.Turned.{Turned};
 
@@ -91,6 +91,8 @@ impl<D: Debuggee + Drop> Adapter<D> {
         ensures stands { IfOk result (λ a. StandsFor a [] []) }
     {
         histories_grow();
+        // For the proof: a request may be kept.
+        let _ = limits.requests();
         let reader = MessageReader::open(alloc, &limits)?;
         let session = Session::open_with(alloc, limits, debuggee, offers)?;
         Ok(Adapter {
@@ -147,12 +149,20 @@ impl<D: Debuggee + Drop> Adapter<D> {
         self.session.breakpoints_of(source)
     }
 
-    /// How many own requests are not answered: at most one, which asks for a terminal.
+    /// How many requests for a terminal are not answered: at most one.
     pub fn asked(&self) -> usize
         ensures asked { result ≡ length (own_requests self.now.session.asked) }
         ensures bound { result ≤ 1 }
     {
         self.session.asked()
+    }
+
+    /// How many requests that were asked by [`ask`](Adapter::ask) are not answered.
+    pub fn asked_by_name(&self) -> usize
+        ensures own { result ≡ length self.now.session.own }
+        ensures bound { result ≤ self.now.session.limits.requests }
+    {
+        self.session.asked_by_name()
     }
 
     /// The debuggee, as the calls left it.
@@ -458,6 +468,44 @@ impl<D: Debuggee + Drop> Adapter<D> {
         each_step_stays_within();
         let closed = self.fault.is_some();
         self.session.respond(alloc, closed, seq, outcome, out)
+    }
+
+    /// Asks the client by a request of this name, as `startDebugging`, or `runInTerminal` with words of one's own: the request is
+    /// appended to `out`, and its number is given, which is the next own number. The client's response has it as `request_seq`; it
+    /// is handed out with the other messages, as by [`take`](Adapter::take), and the request waits no more. A response with
+    /// another command closes the adapter (`CommandMismatch`), and so does a second one (`Unmatched`). Requests may be answered in
+    /// any order, and never have to be. Whether the client knows the request is for the caller to see in what `initialize` says.
+    /// The debuggee is asked nothing, and all else stays as it is. A refused call changes nothing, and the adapter goes on.
+    ///
+    /// # Errors
+    /// The first of these that holds: `Closed` after a fault; `WrongPhase` before `initialize` is answered and after `disconnect`
+    /// is; `BadName` where the command has more than 64 bytes; `Full` where as many wait for their response as requests may be
+    /// kept, less one, which is left for the request for a terminal; `TooLarge` where the body of the message would be longer than
+    /// its limit; `SeqExhausted` where no own number is left. `OutOfMemory` where memory is refused: never where one of the first
+    /// four holds.
+    pub fn ask(
+        &mut self,
+        alloc: Global,
+        command: &str,
+        arguments: Option<Tree>,
+        out: &mut Vec<u8>,
+    ) -> Result<u64, AskFault>
+        requires plain { IsTrue (is_plain_tree arguments) }
+        ensures asks { OnOk result (AppendsSome (λ bytes. Asks D.follows command.now arguments self.old bytes self.new) out.old.items out.new.items) }
+        ensures number { IfOk result (λ seq. seq ≡ self.old.session.used + 1) }
+        ensures limits { self.new.session.limits ≡ self.old.session.limits }
+
+        // Why it is refused; then nothing has changed.
+        ensures refused { IfErr result (NotAsked command.now arguments self.old) }
+        ensures unchanged { OnErr result (self.new ≡ self.old) }
+        ensures buffer { OnErr result (out.new.items ≡ out.old.items) }
+    {
+        histories_grow();
+        read_is_in_range();
+        each_step_goes_on();
+        each_step_stays_within();
+        let closed = self.fault.is_some();
+        self.session.ask(alloc, closed, command, arguments, out)
     }
 
     /// How the client's bytes end, if no more come.

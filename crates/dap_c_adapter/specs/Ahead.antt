@@ -4,7 +4,7 @@ use Rattle.dap_line.specs.Told.{ahead_with, said_of}
 use Rattle.dap_line.specs.declared.refusal.Refusal.{Refusal}
 use Rattle.dap_line.specs.declared.told.Note.{Note}
 use Rattle.dap_line.specs.declared.told.Said.{Said}
-use Rattle.dap_line.specs.declared.told.Said.TheVariants.{Happened, Event, Answer, OfNext, Target}
+use Rattle.dap_line.specs.declared.told.Said.TheVariants.{Happened, Event, Answer, Ask, OfNext, Target}
 use Rattle.dap_live.specs.MailState.{nothing_ahead}
 use Rattle.dap_live.specs.declared.mail.Ahead.{Ahead}
 
@@ -13,6 +13,7 @@ note_in (OfNext note) = Some note
 note_in (Happened told) = None
 note_in (Event name body) = None
 note_in (Answer seq outcome) = None
+note_in (Ask command arguments) = None
 note_in (Target number) = None
 
 abbrev pub ahead_of : Option Note → Option Ahead

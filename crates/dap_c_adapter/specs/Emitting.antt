@@ -13,7 +13,7 @@ use Rattle.dap_c_adapter.specs.declared.held_adapter.HeldAdapter.{HeldAdapter}
 abbrev pub if_plain : Data → Option (Option Data)
 if_plain d = if is_plain_tree (Some d) then Some (Some d) else None
 
--- the body that these bytes are, if they are one that can be written; no bytes are none
+-- the body, or the arguments, that these bytes are, if they are some that can be written; no bytes are none
 abbrev pub body_by : List ℕ → Option (Option Data)
 body_by [] = Some None
 body_by (b ∷ bytes) = option_and_then if_plain (json_of (b ∷ bytes))

@@ -5,6 +5,7 @@ pub mod AdapterExports
 pub mod AdapterFaults
 pub mod AdapterSeen
 pub mod Ahead
+pub mod Asking
 pub mod Beside
 pub mod Emitting
 pub mod Lending

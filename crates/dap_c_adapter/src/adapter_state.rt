@@ -24,7 +24,7 @@ pub struct YtAdapterSeen {
     pub references: usize,
     /// Breakpoints that are set.
     pub breakpoints: usize,
-    /// Own requests that are not answered: at most one, which asks for a terminal.
+    /// Requests for a terminal that are not answered: at most one. `yt_adapter_asked_by_name` counts those that `yt_adapter_ask` asked.
     pub asked: usize,
     /// Bytes held of the frame under way.
     pub held: usize,

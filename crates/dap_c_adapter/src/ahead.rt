@@ -27,6 +27,7 @@ fn note_in(said: Said) -> Option<Note>
         Said::Happened(_) => None,
         Said::Event { .. } => None,
         Said::Answer { .. } => None,
+        Said::Ask { .. } => None,
         Said::Target(_) => None,
     }
 }

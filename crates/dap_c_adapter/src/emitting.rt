@@ -19,7 +19,7 @@ use dap_json::Tree;
 use dap_slot::{handle_of, take_out};
 use std::alloc::Global;
 
-/// The body that bytes are; none where there are no bytes.
+/// The body, or the arguments, that bytes are; none where there are no bytes.
 pub(crate) fn body_given(alloc: Global, bytes: &[u8]) -> Result<Option<Tree>, u32>
     ensures read { IfOk result (λ body. body_by bytes.now ≡ Some body) }
     ensures plain { IfOk result (λ body. IsTrue (plain_tree body)) }

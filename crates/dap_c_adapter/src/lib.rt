@@ -3,8 +3,8 @@
 //! It is of the same kind as `dap_c`, whose head says how. The host is not called: it fetches what it has to do, and says what
 //! happened. A file a concern: `adapter` has the session, `telling` what the host says, `beside` what it says beside that,
 //! `output` under which name and in which pieces, `no_value` why a text has none, `ahead` what it says of what is asked next,
-//! `emitting` has the events that it tells by their names, `lending` the requests of commands that it answers, `acts` what it has to
-//! do.
+//! `emitting` has the events that it tells by their names, `lending` the requests of commands that it answers, `asking` those by
+//! which it asks the client, `acts` what it has to do.
 #![tactic(auto)]
 
 mod acts;
@@ -13,6 +13,7 @@ mod adapter_handle;
 mod adapter_layout;
 mod adapter_state;
 mod ahead;
+mod asking;
 mod beside;
 mod emitting;
 mod held_adapter;
@@ -32,6 +33,7 @@ pub use adapter_handle::{AdapterHandle, YtAdapter};
 pub use adapter_layout::{YtAdapterSizes, yt_adapter_sizes_of};
 pub use adapter_state::{YtAdapterSeen, YtTarget, yt_adapter_state, yt_adapter_target};
 pub use ahead::yt_adapter_ahead;
+pub use asking::{yt_adapter_ask, yt_adapter_asked_by_name};
 pub use beside::{yt_adapter_learned_with, yt_adapter_output_with, yt_adapter_variable_with};
 pub use emitting::yt_adapter_emit;
 pub use held_adapter::HeldAdapter;

@@ -18,7 +18,7 @@ pub const YT_IDLE: u32 = 4;
 /// `disconnect` was sent, or the end is closed.
 pub const YT_ENDED: u32 = 11;
 
-/// The phase does not let the command be sent, nor merely waits for a stop, or does not let the event be told.
+/// The phase does not let the command be sent, nor merely waits for a stop, or does not let the event be told, or the client be asked.
 pub const YT_WRONG_PHASE: u32 = 12;
 
 /// The adapter does not offer the command.
@@ -47,6 +47,9 @@ pub const YT_RESERVED: u32 = 20;
 
 /// No request with this number is lent.
 pub const YT_NOT_LENT: u32 = 21;
+
+/// The name of a command has more than 64 bytes.
+pub const YT_BAD_NAME: u32 = 22;
 
 /// The stream is no frame.
 pub const YT_FRAME: u32 = 31;

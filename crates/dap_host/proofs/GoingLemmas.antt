@@ -3,7 +3,7 @@ use Rattle.std.proofs.Common.{◌≡◌, ℕ, ◌≤◌, List, [], ◌∷◌, �
 use Rattle.std.specs.Prelude.{IfErr, IfOk}
 use Rattle.dap_adapter.specs.AdapterState.{AdapterState}
 use Rattle.dap_adapter.specs.Bodies.{IsBetween, BodiesComeOneByOne}
-use Rattle.dap_adapter.specs.Calls.{Emits, Responds}
+use Rattle.dap_adapter.specs.Calls.{Asks, Emits, Responds}
 use Rattle.dap_message.specs.declared.outcome.Outcome.{Outcome}
 use Rattle.dap_plan.specs.Plan.{written_by}
 use Rattle.dap_plan.specs.SessionState.{AppendsSome}
@@ -26,7 +26,7 @@ use Rattle.dap_command.specs.declared.offer.Offer.{Offer}
 use Rattle.dap_plan.specs.Session.{Session, opened_session}
 use Rattle.dap_plan.specs.declared.fault.AdapterFault.{AdapterFault}
 use Rattle.dap_host.specs.Fed.{AnswersFed, TellsFed, mail_ahead, over_mail}
-use Rattle.dap_host.specs.Hearing.{HostState, Comes, with_ahead, sources_there, IsGoing, SameButAdapter, TakesMessage, AnswersMessage, TellsIt, EmitsEvent, AnswersLent, newly_lent, StopsMessage, StopsTelling, RefusesTold, bad_moment, dropped, IsUnheard, drop_of}
+use Rattle.dap_host.specs.Hearing.{HostState, Comes, with_ahead, sources_there, IsGoing, SameButAdapter, TakesMessage, AnswersMessage, TellsIt, EmitsEvent, AnswersLent, AsksClient, newly_lent, StopsMessage, StopsTelling, RefusesTold, bad_moment, dropped, IsUnheard, drop_of}
 use Rattle.dap_line.specs.Written.{message_lines, act_lines, lent_lines}
 use Rattle.dap_live.specs.declared.mail.Ahead.{Ahead}
 use Rattle.dap_live.specs.declared.mail.Coming.{Coming}
@@ -218,3 +218,17 @@ responded_going o h k seq outcome bytes e going laws a limits =
     let was : IsGoing o = subst IsGoing (sym e) going in
     let told = a.holds in
     goes o k was told.limits limits (laws.responded o.adapter k.adapter seq outcome a.bytes (between o was) told) (ap (λ (v : LiveState). v.mail) told.debuggee ∙ was.fetched)
+
+-- ---- the client is asked
+
+pub ask_at : (o h k : HostState) (command : List ℕ) (arguments : Option Data) (bytes before after : List ℕ) → o ≡ h → AppendsSome (λ more. Asks FollowsLive command arguments o.adapter more k.adapter) [] bytes
+    → ((outs : List Message) → bytes ≡ bytes_of outs → after ≡ before ++ message_lines outs) → SameButAdapter o k → AsksClient h command arguments before after k
+ask_at o h k command arguments bytes before after e a hands same =
+    let asked : AsksClient o command arguments before after k = record { bytes = a.bytes; asks = a.holds; lines = hands (written_by o.adapter.session a.holds.step.session.made) (a.items ∙ a.holds.step.bytes_are); same = same } in
+    subst (λ (z : HostState). AsksClient z command arguments before after k) e asked
+
+pub asked_going : (o h k : HostState) (command : List ℕ) (arguments : Option Data) (bytes : List ℕ) → o ≡ h → IsGoing h → Laws → AppendsSome (λ more. Asks FollowsLive command arguments o.adapter more k.adapter) [] bytes → k.limits ≡ o.limits → IsGoing k
+asked_going o h k command arguments bytes e going laws a limits =
+    let was : IsGoing o = subst IsGoing (sym e) going in
+    let asks = a.holds in
+    goes o k was asks.limits limits (laws.asked o.adapter k.adapter command arguments a.bytes (between o was) asks) (ap (λ (v : LiveState). v.mail) asks.debuggee ∙ was.fetched)

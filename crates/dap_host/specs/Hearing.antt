@@ -48,15 +48,17 @@ use Rattle.dap_line.specs.Written.{message_lines, act_lines, lent_lines, refusal
 use Rattle.dap_host.specs.declared.host.Mark.{Mark}
 use Rattle.dap_host.specs.declared.host.Mark.TheVariants as mark
 use Rattle.dap_line.specs.declared.refusal.Refusal.{Refusal}
-use Rattle.dap_line.specs.declared.refusal.Refusal.TheVariants.{TooLong, BadLine, Body, BodyTooLong, Ended, BadKey, Dropped, SeqExhausted, NotLent}
-use Rattle.dap_line.specs.declared.told.Said.TheVariants.{Happened, Event, Answer, OfNext, Target}
-use Rattle.dap_line.specs.declared.refusal.HostKey.TheVariants.{Event as EventKey}
+use Rattle.dap_line.specs.declared.refusal.Refusal.TheVariants.{TooLong, BadLine, Body, BodyTooLong, Ended, BadKey, Dropped, SeqExhausted, NotLent, Full}
+use Rattle.dap_line.specs.declared.told.Said.TheVariants.{Happened, Event, Answer, Ask, OfNext, Target}
+use Rattle.dap_line.specs.declared.refusal.HostKey.TheVariants.{Event as EventKey, Ask as AskKey}
 use Rattle.dap_plan.specs.Plan.{written_by}
 use Rattle.dap_plan.specs.declared.fault.EmitFault.{EmitFault}
 use Rattle.dap_plan.specs.declared.fault.EmitFault.TheVariants as fault
 use Rattle.dap_plan.specs.declared.fault.RespondFault.{RespondFault}
 use Rattle.dap_plan.specs.declared.fault.RespondFault.TheVariants as respond
-use Rattle.dap_adapter.specs.Calls.{NotEmitted, Emits, NotResponded, Responds}
+use Rattle.dap_plan.specs.declared.fault.AskFault.{AskFault}
+use Rattle.dap_plan.specs.declared.fault.AskFault.TheVariants as ask
+use Rattle.dap_adapter.specs.Calls.{NotEmitted, Emits, NotResponded, Responds, NotAsked, Asks}
 use Rattle.serde_json.specs.Data.{Data}
 use Rattle.dap_line.specs.declared.told.Note.{Note}
 use Rattle.dap_line.specs.declared.told.Told.{Told}
@@ -265,6 +267,28 @@ pub data AnswersOrRefuses (old : HostState) (seq : ℕ) (outcome : Outcome) (bef
   answers : AnswersLent old seq outcome before after new → AnswersOrRefuses old seq outcome before after new
   answer_refused : (f : RespondFault) (why : Refusal) → NotResponded seq outcome old.adapter f → respond_refusal f ≡ Some why → Refuses old why before after new → AnswersOrRefuses old seq outcome before after new
 
+-- the client is asked by a request of this name: the line of that request
+pub record AsksClient (old : HostState) (command : List ℕ) (arguments : Option Data) (before after : List ℕ) (new : HostState) : Type 0 where
+  pub bytes : List ℕ
+  pub asks : Asks FollowsLive command arguments old.adapter bytes new.adapter
+  pub lines : after ≡ before ++ message_lines (written_by old.adapter.session asks.step.session.made)
+  pub same : SameButAdapter old new
+
+-- why it is not, as a line's refusal; there is none where memory was refused
+abbrev pub ask_refusal : AskFault → Option Refusal
+ask_refusal ask.Closed = Some Ended
+ask_refusal ask.WrongPhase = Some (Dropped OutOfTurn)
+ask_refusal ask.BadName = Some (BadKey AskKey)
+ask_refusal ask.Full = Some Full
+ask_refusal ask.TooLarge = Some BodyTooLong
+ask_refusal ask.SeqExhausted = Some SeqExhausted
+ask_refusal ask.OutOfMemory = None
+
+-- it is, or the line is refused for the first reason that holds
+pub data AsksOrRefuses (old : HostState) (command : List ℕ) (arguments : Option Data) (before after : List ℕ) (new : HostState) : Type 0 where
+  asks : AsksClient old command arguments before after new → AsksOrRefuses old command arguments before after new
+  ask_refused : (f : AskFault) (why : Refusal) → NotAsked command arguments old.adapter f → ask_refusal f ≡ Some why → Refuses old why before after new → AsksOrRefuses old command arguments before after new
+
 -- what is said of the next message is kept, in place of what was said of the same before, and nothing else has changed
 pub record KeepsNote (old : HostState) (note : Note) (before after : List ℕ) (new : HostState) : Type 0 where
   pub none : after ≡ before
@@ -297,6 +321,7 @@ pub data HearsHappening (old : HostState) (text before after : List ℕ) (new : 
   not_heard : (why : Refusal) → RefusesTold old text why → Refuses old why before after new → HearsHappening old text before after new
   emitted : (name : List ℕ) (body : Option Data) → said_of text ≡ Ok (Event name body) → EmitsOrRefuses old name body before after new → HearsHappening old text before after new
   lent_answered : (seq : ℕ) (outcome : Outcome) → said_of text ≡ Ok (Answer seq outcome) → AnswersOrRefuses old seq outcome before after new → HearsHappening old text before after new
+  client_asked : (command : List ℕ) (arguments : Option Data) → said_of text ≡ Ok (Ask command arguments) → AsksOrRefuses old command arguments before after new → HearsHappening old text before after new
   noted : (note : Note) → said_of text ≡ Ok (OfNext note) → KeepsNote old note before after new → HearsHappening old text before after new
   asked : (number : ℕ) → said_of text ≡ Ok (Target number) → AnswersTarget old number before after new → HearsHappening old text before after new
   heard : (coming : Coming) → HearsTold old text coming → TellsOrDrops old (parts_of coming) before after new → HearsHappening old text before after new

@@ -6,7 +6,7 @@ ghost use Rattle.dap_outbox.specs.Draft.{bytes_of};
 ghost use Rattle.dap_plan.specs.declared.fault.AdapterFault.{AdapterFault};
 ghost use Rattle.dap_decision.specs.Table.{is_phase};
 ghost use Rattle.dap_decision.specs.declared.phase.Phase.{Phase};
-ghost use Rattle.dap_host.specs.Hearing.{emit_refusal, respond_refusal, new_numbers, numbers_in, mark_of, state_of, drop_of, with_ahead};
+ghost use Rattle.dap_host.specs.Hearing.{emit_refusal, respond_refusal, ask_refusal, new_numbers, numbers_in, mark_of, state_of, drop_of, with_ahead};
 ghost use Rattle.dap_json.specs.Writable.{is_plain_tree};
 ghost use Rattle.dap_line.specs.Told.{ahead_with};
 
@@ -16,7 +16,8 @@ use crate::limits::limits_are_in_range;
 use crate::messages::push_messages;
 use crate::offers::{OffersFault, read_offers};
 use dap_adapter::{
-    Adapter, AdapterFault, EmitFault, Lent, Outcome, Phase, RespondFault, bodies_come_one_by_one,
+    Adapter, AdapterFault, AskFault, EmitFault, Lent, Outcome, Phase, RespondFault,
+    bodies_come_one_by_one,
 };
 use dap_debuggee::{Category, State};
 use dap_frame::Limits;
@@ -113,6 +114,21 @@ fn respond_refusal(fault: RespondFault) -> Option<Refusal>
     }
 }
 
+/// Why the client is not asked, as a line's refusal: `BadKey` where the name is too long; `None` where memory was refused.
+fn ask_refusal(fault: AskFault) -> Option<Refusal>
+    ensures { result ≡ ask_refusal fault }
+{
+    match fault {
+        AskFault::Closed => Some(Refusal::Ended),
+        AskFault::WrongPhase => Some(Refusal::Dropped(Dropped::OutOfTurn)),
+        AskFault::BadName => Some(Refusal::BadKey(HostKey::Ask)),
+        AskFault::Full => Some(Refusal::Full),
+        AskFault::TooLarge => Some(Refusal::BodyTooLong),
+        AskFault::SeqExhausted => Some(Refusal::SeqExhausted),
+        AskFault::OutOfMemory => None,
+    }
+}
+
 fn is_ended(phase: Phase) -> bool
     ensures { result ≡ is_phase Phase.Ended phase }
 {
@@ -171,7 +187,7 @@ impl Model for Host {
 
 impl Host {
     ghost use Rattle.std.specs.Prelude.{◌≡◌, ◌≢◌, ◌↔◌, ◌<◌, ◌++◌, ◌∷◌, [], List, ℕ, length, IfOk, IfErr, OnOk, OnErr, IfSome, IsTrue, None, Ok, Err, true, false};
-    ghost use Rattle.dap_host.specs.Hearing.{IsFresh, IsGoing, RefusesMessage, TakesMessage, Comes, HearsTold, IsUnheard, AnswersMessage, dropped_line, TellsIt, TellsUntil, TellsOrDrops, StopsMessage, StopsTelling, StopsWithin, HearsMessage, HearsHappening, EmitsOrRefuses, AnswersOrRefuses, HearsMarked, StopsMarked, HearsText, Hears, HearsLonger, Halts, RefusesFile, counted};
+    ghost use Rattle.dap_host.specs.Hearing.{IsFresh, IsGoing, RefusesMessage, TakesMessage, Comes, HearsTold, IsUnheard, AnswersMessage, dropped_line, TellsIt, TellsUntil, TellsOrDrops, StopsMessage, StopsTelling, StopsWithin, HearsMessage, HearsHappening, EmitsOrRefuses, AnswersOrRefuses, AsksOrRefuses, HearsMarked, StopsMarked, HearsText, Hears, HearsLonger, Halts, RefusesFile, counted};
     ghost use Rattle.dap_host.specs.Parts.{parts_of, outputs, outputs_alone, texts_told};
     ghost use Rattle.dap_line.specs.Moments.{HasRoom};
     ghost use Rattle.dap_live.specs.declared.mail.Coming.TheVariants as news;
@@ -409,6 +425,7 @@ impl Host {
             Ok(Said::Happened(told)) => self.hear_told(alloc, text, told, out),
             Ok(Said::Event { event, body }) => self.emit(alloc, &event, &body, out),
             Ok(Said::Answer { seq, outcome }) => self.respond(alloc, seq, &outcome, out),
+            Ok(Said::Ask { command, arguments }) => self.ask(alloc, &command, arguments, out),
             Ok(Said::OfNext(note)) => {
                 self.keep_note(note);
                 Ok(())
@@ -471,6 +488,40 @@ impl Host {
                 Err(_) => Err(AdapterFault::OutOfMemory),
             },
             Err(fault) => match respond_refusal(fault) {
+                Some(why) => self.refuse(why, out),
+                None => Err(AdapterFault::OutOfMemory),
+            },
+        }
+    }
+
+    /// Lets the adapter ask the client by a request of any name, or refuses the line for the first of these that holds:
+    /// `OutOfTurn` before `initialize` is answered and after `disconnect` is; `BadKey ask` where the name has more than 64 bytes;
+    /// `Full` where as many such requests wait for a response as may; `BodyTooLong`; `SeqExhausted`.
+    fn ask(
+        &mut self,
+        alloc: Global,
+        command: &Text,
+        arguments: Option<Tree>,
+        out: &mut Vec<u8>,
+    ) -> Result<(), AdapterFault>
+        requires going { IsGoing self.old }
+        requires plain { IsTrue (is_plain_tree arguments) }
+        ensures asks { OnOk result (AsksOrRefuses self.old command.now arguments out.old.items out.new.items self.new) }
+        ensures going { OnOk result (IsGoing self.new) }
+        ensures memory { IfErr result (λ fault. fault ≡ AdapterFault.OutOfMemory) }
+    {
+        // For the proof: no message is under way.
+        bodies_come_one_by_one::<Live>();
+        let mut bytes = Vec::new(alloc);
+        match self
+            .adapter
+            .ask(alloc, command.as_str(), arguments, &mut bytes)
+        {
+            Ok(_seq) => match push_messages(&bytes, out) {
+                Ok(()) => Ok(()),
+                Err(_) => Err(AdapterFault::OutOfMemory),
+            },
+            Err(fault) => match ask_refusal(fault) {
                 Some(why) => self.refuse(why, out),
                 None => Err(AdapterFault::OutOfMemory),
             },

@@ -23,7 +23,7 @@ use Rattle.dap_recording.specs.Pieces.{piece_length}
 use Rattle.dap_recording.specs.Reading.{exit_of}
 use Rattle.dap_line.specs.Written.{host_key_name}
 use Rattle.dap_line.specs.declared.refusal.HostKey.{HostKey}
-use Rattle.dap_line.specs.declared.refusal.HostKey.TheVariants.{Happened, Category, Output, Reason, Thread, Moment, Code, Text, Value, Later, Holder, Variables, Name, Asked, Number, Sources, More, Why, ShowUser, Placed, Refuses, Path, SourceReference, Breakpoints, Line, Verified, Message as Words, Event as EventKey, Body as BodyKey, Answer}
+use Rattle.dap_line.specs.declared.refusal.HostKey.TheVariants.{Happened, Category, Output, Reason, Thread, Moment, Code, Text, Value, Later, Holder, Variables, Name, Asked, Number, Sources, More, Why, ShowUser, Placed, Refuses, Path, SourceReference, Breakpoints, Line, Verified, Message as Words, Event as EventKey, Body as BodyKey, Answer, Ask, Arguments}
 use Rattle.dap_line.specs.declared.refusal.Refusal.{Refusal}
 use Rattle.dap_line.specs.declared.refusal.Refusal.TheVariants.{NotJson, BadKey}
 use Rattle.dap_line.specs.declared.told.Kind.{Kind}
@@ -277,14 +277,14 @@ placed_in d = do
 
 -- ---- an event that is told by its name
 
--- a body that can be written
-abbrev pub body_of : Data → Option Data
-body_of d = if is_plain_tree (Some d) then Some d else None
+-- a body, or arguments, that can be written
+abbrev pub plain_tree_of : Data → Option Data
+plain_tree_of d = if is_plain_tree (Some d) then Some d else None
 
 unfoldable pub event_in : Data → Read Said
 event_in d = do
   name ← required_at as_str EventKey d
-  body ← optional_at body_of BodyKey d
+  body ← optional_at plain_tree_of BodyKey d
   Ok (said.Event name body)
 
 -- ---- an answer to a request that is lent
@@ -298,10 +298,18 @@ unfoldable pub answer_in : Data → Read Said
 answer_in d = do
   seq ← required_at seq_of Answer d
   message ← optional_at as_str Words d
-  body ← optional_at body_of BodyKey d
+  body ← optional_at plain_tree_of BodyKey d
   Ok (said.Answer seq (outcome_of message body))
 
--- ---- what is said: what happened, an event, an answer, something of the next message, or a question
+-- ---- a request to the client, by its name
+
+unfoldable pub ask_in : Data → Read Said
+ask_in d = do
+  command ← required_at as_str Ask d
+  arguments ← optional_at plain_tree_of Arguments d
+  Ok (said.Ask command arguments)
+
+-- ---- what is said: what happened, an event, an answer, a request to the client, something of the next message, or a question
 
 -- that what the next message asks for is refused, and why
 unfoldable pub refusal_in : Data → Read Said
@@ -326,14 +334,15 @@ happened_in d = do
   told ← told_in d
   Ok (said.Happened told)
 
--- an answer counts where nothing happened
-abbrev pub happened_or_answer : Option Data → Option Data → Data → Read Said
-happened_or_answer None (Some answered) d = answer_in d
-happened_or_answer happened answered d = happened_in d
+-- an answer counts where nothing happened, and a request to the client where nothing is answered either
+abbrev pub happened_or_message : Option Data → Option Data → Option Data → Data → Read Said
+happened_or_message None (Some answered) command d = answer_in d
+happened_or_message None None (Some command) d = ask_in d
+happened_or_message happened answered command d = happened_in d
 
--- a question where there is one, else where breakpoints are, that something is refused, or an event, where that is said, else what happened, or an answer
+-- a question where there is one, else where breakpoints are, that something is refused, or an event, where that is said, else what happened, or a message for the client
 abbrev pub said_by : Option Data → Option Data → Option Data → Option Data → Data → Read Said
-said_by None None None None d = happened_or_answer (value_at Happened d) (value_at Answer d) d
+said_by None None None None d = happened_or_message (value_at Happened d) (value_at Answer d) (value_at Ask d) d
 said_by None None None (Some event) d = event_in d
 said_by None None (Some why) event d = refusal_in d
 said_by None (Some source) refuses event d = placed_in d
@@ -342,10 +351,11 @@ said_by (Some asked) placed refuses event d = asked_in d
 abbrev pub said_in : Data → Read Said
 said_in d = said_by (value_at Asked d) (value_at Placed d) (value_at Refuses d) (value_at EventKey d) d
 
--- the body of an event, or of an answer, can be written
+-- the body of an event, or of an answer, can be written, and so can the arguments of a request
 abbrev pub IsPlainSaid : Said → Type 0
 IsPlainSaid (said.Event name body) = IsTrue (is_plain_tree body)
 IsPlainSaid (said.Answer seq outcome) = IsTrue (is_plain_outcome outcome)
+IsPlainSaid (said.Ask command arguments) = IsTrue (is_plain_tree arguments)
 IsPlainSaid (said.Happened told) = Unit {0}
 IsPlainSaid (said.OfNext note) = Unit {0}
 IsPlainSaid (said.Target number) = Unit {0}

@@ -20,9 +20,9 @@ use Rattle.dap_tables.specs.declared.reference_kind.ReferenceKind.{ReferenceKind
 use Rattle.dap_tables.specs.declared.reference_kind.ReferenceKind.TheVariants.{Frame, Holder as Locals}
 use Rattle.dap_tables.specs.declared.target.Target.{Target}
 use Rattle.dap_line.specs.declared.refusal.HostKey.{HostKey}
-use Rattle.dap_line.specs.declared.refusal.HostKey.TheVariants.{Happened, Category, Output, Reason, Thread, Moment, Code, Text, Value, Later, Holder, Variables, Name, Asked, Number, Sources, More, Why, ShowUser, Placed, Refuses, Path as PathKey, SourceReference, Breakpoints, Line, Verified, Message as Words, Event as EventKey, Body as BodyKey, Answer}
+use Rattle.dap_line.specs.declared.refusal.HostKey.TheVariants.{Happened, Category, Output, Reason, Thread, Moment, Code, Text, Value, Later, Holder, Variables, Name, Asked, Number, Sources, More, Why, ShowUser, Placed, Refuses, Path as PathKey, SourceReference, Breakpoints, Line, Verified, Message as Words, Event as EventKey, Body as BodyKey, Answer, Ask, Arguments}
 use Rattle.dap_line.specs.declared.refusal.Refusal.{Refusal}
-use Rattle.dap_line.specs.declared.refusal.Refusal.TheVariants.{TooLong, BadLine, Body, BodyTooLong, Ended, NotJson, BadKey, BadMoment, BadSources, Dropped, SeqExhausted, NotLent}
+use Rattle.dap_line.specs.declared.refusal.Refusal.TheVariants.{TooLong, BadLine, Body, BodyTooLong, Ended, NotJson, BadKey, BadMoment, BadSources, Dropped, SeqExhausted, NotLent, Full}
 
 -- ---- messages for the client
 
@@ -140,6 +140,8 @@ host_key_name Words = codes "message"
 host_key_name EventKey = codes "event"
 host_key_name BodyKey = codes "body"
 host_key_name Answer = codes "answer"
+host_key_name Ask = codes "ask"
+host_key_name Arguments = codes "arguments"
 
 abbrev pub dropped_name : Drop → List ℕ
 dropped_name OutOfTurn = codes "OutOfTurn"
@@ -161,6 +163,7 @@ reason_of (BadSources k) = codes "BadSources " ++ name_of k
 reason_of (Dropped why) = dropped_name why
 reason_of SeqExhausted = codes "SeqExhausted"
 reason_of NotLent = codes "NotLent"
+reason_of Full = codes "Full"
 
 abbrev pub refusal_front : ℕ → List ℕ
 refusal_front n = codes "! {\"refused\":" ++ (decimal n ++ codes ",\"why\":\"")

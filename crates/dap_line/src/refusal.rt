@@ -41,6 +41,8 @@ pub enum HostKey {
     Event,
     Body,
     Answer,
+    Ask,
+    Arguments,
 }
 
 impl HostKey {
@@ -81,6 +83,8 @@ impl HostKey {
             HostKey::Event => "event",
             HostKey::Body => "body",
             HostKey::Answer => "answer",
+            HostKey::Ask => "ask",
+            HostKey::Arguments => "arguments",
         }
     }
 }
@@ -94,7 +98,7 @@ pub enum Refusal {
     BadLine,
     /// What should be a message of the client is none.
     Body(BodyRefusal),
-    /// The message is longer than a body may be.
+    /// The message, of the client or for it, is longer than a body may be.
     BodyTooLong,
     /// The session has ended: no message is taken any more.
     Ended,
@@ -108,10 +112,12 @@ pub enum Refusal {
     BadSources(RecordingKey),
     /// It is dropped.
     Dropped(Dropped),
-    /// No own number is left for the event that it tells, or the answer that it gives.
+    /// No own number is left for the event that it tells, the answer that it gives, or the request that it asks by.
     SeqExhausted,
     /// It answers a request that is not lent.
     NotLent,
+    /// It asks the client, while as many such requests wait for a response as may.
+    Full,
 }
 
 fn dropped_name(dropped: Dropped) -> &'static str
@@ -152,6 +158,7 @@ fn push_reason(out: &mut Vec<u8>, why: Refusal) -> Result<(), AllocError>
         Refusal::Dropped(dropped) => out.extend_from_slice(dropped_name(dropped).as_bytes()),
         Refusal::SeqExhausted => out.extend_from_slice(b"SeqExhausted"),
         Refusal::NotLent => out.extend_from_slice(b"NotLent"),
+        Refusal::Full => out.extend_from_slice(b"Full"),
     }
 }
 

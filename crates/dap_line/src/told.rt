@@ -9,7 +9,7 @@ ghost use Rattle.dap_json.specs.Writable.{is_plain_tree as plain_tree};
 ghost use Rattle.dap_message.specs.MessageParts.{is_plain_outcome};
 ghost use Rattle.dap_recording.specs.Pieces.{piece_length};
 ghost use Rattle.dap_line.specs.Told.{Gives, GivesList, Tells, value_at, required_at, optional_at, category_in as category_in_data, category_named as category_of_name, variable_of, each_variable, variables_of as variables_of_items, variables_in as variables_told, learned_by as learned_of_key, loaded_in as loaded_of};
-ghost use Rattle.dap_line.specs.Told.{output_in as output_of, stop_in as stop_of, continued_in as continued_of, exit_in as exit_of, learned_in as learned_of, no_value_in as no_value_of, text_by as text_of_keys, body_of, event_in as event_of, outcome_of as outcome_said, answer_in as answer_of, happened_or_answer as happened_or_answer_of, IsPlainSaid, kind_named as kind_of_name, kind_of, told_in as told_of, happening_of, question_named as question_of_name, question_of, asked_in as asked_of, happened_in as happened_of, explanation_in as explanation_of, refusal_in as refusal_of, said_in as said_of};
+ghost use Rattle.dap_line.specs.Told.{output_in as output_of, stop_in as stop_of, continued_in as continued_of, exit_in as exit_of, learned_in as learned_of, no_value_in as no_value_of, text_by as text_of_keys, plain_tree_of, event_in as event_of, outcome_of as outcome_said, answer_in as answer_of, ask_in as ask_of, happened_or_message as happened_or_message_of, IsPlainSaid, kind_named as kind_of_name, kind_of, told_in as told_of, happening_of, question_named as question_of_name, question_of, asked_in as asked_of, happened_in as happened_of, explanation_in as explanation_of, refusal_in as refusal_of, said_in as said_of};
 ghost use Rattle.std.specs.Option.{is_some};
 
 use crate::places::placed_in;
@@ -91,14 +91,25 @@ impl Note {
     }
 }
 
-/// What a host says: what it tells, an event, an answer, something of the next message, or a question.
+/// What a host says: what it tells, an event, an answer, a request to the client, something of the next message, or a question.
 #[derive(Drop)]
 pub enum Said {
     Happened(Told),
     /// An event that is told by its name, with a body that can be written.
-    Event { event: Text, body: Option<Tree> },
+    Event {
+        event: Text,
+        body: Option<Tree>,
+    },
     /// An answer to the lent request with this number.
-    Answer { seq: u64, outcome: Outcome },
+    Answer {
+        seq: u64,
+        outcome: Outcome,
+    },
+    /// A request to the client by its name, with arguments that can be written.
+    Ask {
+        command: Text,
+        arguments: Option<Tree>,
+    },
     OfNext(Note),
     /// What a number of the client names.
     Target(u32),
@@ -484,16 +495,16 @@ fn refusal_in(alloc: Global, said: &Value) -> Result<Said, Unread>
     Ok(Said::OfNext(Note::Refuses(why)))
 }
 
-/// The body of an event or an answer, where there is one.
-fn body_in(said: &mut Value) -> Result<Option<Tree>, HostKey>
-    ensures read { result ≡ optional_at body_of HostKey.Body (view said.old) }
-    ensures plain { IfOk result (λ body. IsTrue (plain_tree body)) }
+/// What stands at a key, where there is something: it has to be what can be written.
+fn plain_tree_at(said: &mut Value, key: HostKey) -> Result<Option<Tree>, HostKey>
+    ensures read { result ≡ optional_at plain_tree_of key (view said.old) }
+    ensures plain { IfOk result (λ tree. IsTrue (plain_tree tree)) }
 {
-    let body = field::take_tree(said, HostKey::Body.name());
-    if !is_plain_tree(&body) {
-        return Err(HostKey::Body);
+    let tree = field::take_tree(said, key.name());
+    if !is_plain_tree(&tree) {
+        return Err(key);
     }
-    Ok(body)
+    Ok(tree)
 }
 
 /// An event that is told by its name.
@@ -503,7 +514,7 @@ fn event_in(alloc: Global, said: &mut Value) -> Result<Said, Unread>
     ensures plain { IfOk result IsPlainSaid }
 {
     let event = text_at(alloc, said, HostKey::Event)?;
-    let body = body_in(said)?;
+    let body = plain_tree_at(said, HostKey::Body)?;
     Ok(Said::Event { event, body })
 }
 
@@ -540,9 +551,20 @@ fn answer_in(alloc: Global, said: &mut Value) -> Result<Said, Unread>
         .and_then(whole)
         .ok_or(HostKey::Answer)?;
     let message = message_in(alloc, said)?;
-    let body = body_in(said)?;
+    let body = plain_tree_at(said, HostKey::Body)?;
     let outcome = outcome_of(message, body);
     Ok(Said::Answer { seq, outcome })
+}
+
+/// A request to the client by its name.
+#[tactic(auto, unfolding(crate::specs::Told::ask_in))]
+fn ask_in(alloc: Global, said: &mut Value) -> Result<Said, Unread>
+    ensures gives { Gives result (ask_of (view said.old)) }
+    ensures plain { IfOk result IsPlainSaid }
+{
+    let command = text_at(alloc, said, HostKey::Ask)?;
+    let arguments = plain_tree_at(said, HostKey::Arguments)?;
+    Ok(Said::Ask { command, arguments })
 }
 
 /// Whether something stands at a key.
@@ -552,19 +574,26 @@ fn is_there(said: &Value, key: HostKey) -> bool
     at(said, key).found.is_some()
 }
 
-/// What happened, or, where nothing did, an answer.
-fn happened_or_answer(alloc: Global, said: &mut Value) -> Result<Said, Unread>
-    ensures gives { Gives result (happened_or_answer_of (value_at HostKey.Happened (view said.old)) (value_at HostKey.Answer (view said.old)) (view said.old)) }
+/// What happened, or, where nothing did, a message for the client: an answer, else a request.
+fn happened_or_message(alloc: Global, said: &mut Value) -> Result<Said, Unread>
+    ensures gives { Gives result (happened_or_message_of (value_at HostKey.Happened (view said.old)) (value_at HostKey.Answer (view said.old)) (value_at HostKey.Ask (view said.old)) (view said.old)) }
     ensures plain { IfOk result IsPlainSaid }
 {
-    if is_there(said, HostKey::Answer) && !is_there(said, HostKey::Happened) {
+    if is_there(said, HostKey::Happened) {
+        return happened_in(alloc, said);
+    }
+    if is_there(said, HostKey::Answer) {
         return answer_in(alloc, said);
     }
+    if is_there(said, HostKey::Ask) {
+        return ask_in(alloc, said);
+    }
+    // With none of the keys it is refused for this one.
     happened_in(alloc, said)
 }
 
 /// What is said: a question where there is one, else what is said of the next message, where breakpoints are or that it is
-/// refused, else an event, else what happened, or an answer.
+/// refused, else an event, else what happened, else an answer, else a request to the client.
 fn said_in(alloc: Global, said: &mut Value) -> Result<Said, Unread>
     ensures gives { Gives result (said_of (view said.old)) }
     ensures plain { IfOk result IsPlainSaid }
@@ -581,7 +610,7 @@ fn said_in(alloc: Global, said: &mut Value) -> Result<Said, Unread>
     if is_there(said, HostKey::Event) {
         return event_in(alloc, said);
     }
-    happened_or_answer(alloc, said)
+    happened_or_message(alloc, said)
 }
 
 /// What the JSON text of a host says.

@@ -2,7 +2,7 @@
 use Rattle.std.specs.Prelude.{◌≡◌, ℕ, ◌+◌, ◌≤◌, List, [], ◌∷◌, ◌++◌, length, take, drop, nat_le, Bool, IsTrue, Option, Some, None}
 use Rattle.serde_json.specs.Data.{Data}
 use Rattle.dap_json.specs.Field.{max_seq}
-use Rattle.dap_message.specs.MessageParts.{AdapterEvent, initialized, output, stopped, continued, exited, terminated, named, success_response, explained_response, outcome_response}
+use Rattle.dap_message.specs.MessageParts.{AdapterEvent, initialized, output, stopped, continued, exited, terminated, named, success_response, explained_response, outcome_response, request_message}
 use Rattle.dap_message.specs.declared.outcome.Outcome.{Outcome}
 use Rattle.dap_body.specs.Body.{data_in}
 use Rattle.dap_message.specs.Lengths.{max_fixed, event_within}
@@ -21,7 +21,7 @@ use Rattle.dap_outbox.specs.declared.answer.Fixed.TheVariants.{Continue}
 use Rattle.dap_outbox.specs.declared.answer.Event.{Event}
 use Rattle.dap_outbox.specs.declared.answer.Event.TheVariants.{Initialized, Output, Stopped, Continued, Exited, Terminated}
 use Rattle.dap_outbox.specs.InRange.{AnswersInRange, IsRequestInRange}
-use Rattle.dap_outbox.specs.Draft.{Answer as AnswerWord, success, failure, explained, came_out, Draft, reply, emit, numbered_messages, bytes_of}
+use Rattle.dap_outbox.specs.Draft.{Answer as AnswerWord, success, failure, explained, came_out, Draft, reply, emit, ask_named, numbered_messages, bytes_of}
 
 -- what the buffer had before, the bytes of the messages behind it, and the own numbers that are left after them
 pub record OutboxState : Type 0 where
@@ -105,6 +105,14 @@ EmitsIfFits most old new event fits = IsTrue fits → AppendsDraft most old new 
 -- an event of any name, with a tree as its body, if its message has
 abbrev pub EmitsNamedIfFits : ℕ → OutboxState → OutboxState → List ℕ → Option Data → Bool → Type 0
 EmitsNamedIfFits most old new event given fits = IsTrue fits → AppendsDraft most old new (emit (named event given))
+
+-- whether a request of any name, with this own number, has at most so many bytes
+abbrev pub request_fits : ℕ → ℕ → List ℕ → Option Data → Bool
+request_fits most seq command given = nat_le (length (canon (request_message seq command given))) most
+
+-- if it has, it is asked
+abbrev pub AsksNamedIfFits : ℕ → OutboxState → OutboxState → List ℕ → Option Data → Bool → Type 0
+AsksNamedIfFits most old new command given fits = IsTrue fits → AppendsDraft most old new (ask_named command given)
 
 -- whether a failure with why the debuggee refused, and with this own number, has at most so many bytes
 abbrev pub explanation_fits_as : ℕ → ℕ → Request → Explanation → Bool

@@ -1,7 +1,7 @@
 //! A buffer that is lent, with messages of a step behind what it had before.
 ghost use Rattle.std.specs.Prelude.{◌≡◌, ◌+◌, ◌<◌, ◌≤◌, ◌++◌, length, IfOk, OnOk, OnErr, IsTrue, false};
 ghost use Rattle.dap_outbox.specs.Draft.{ask};
-ghost use Rattle.dap_outbox.specs.Outbox.{event_of, IsReady, AppendsDraft, HoldsNone, AppendsReply, AppendsEvent, EmitsIfFits, EmitsNamedIfFits, answer_fits, AnswersIfFits, explanation_fits, explanation_fits_as, ExplainsIfFits, outcome_fits, RespondsIfFits, AppendsAnswer};
+ghost use Rattle.dap_outbox.specs.Outbox.{event_of, IsReady, AppendsDraft, HoldsNone, AppendsReply, AppendsEvent, EmitsIfFits, EmitsNamedIfFits, answer_fits, AnswersIfFits, explanation_fits, explanation_fits_as, ExplainsIfFits, outcome_fits, RespondsIfFits, AppendsAnswer, request_fits, AsksNamedIfFits};
 ghost use Rattle.dap_json.specs.Field.{max_seq};
 ghost use Rattle.dap_json.specs.Writable.{is_plain_tree};
 ghost use Rattle.dap_message.specs.Lengths.{max_fixed, IsWithin, event_fits};
@@ -9,7 +9,8 @@ ghost use Rattle.dap_message.specs.MessageParts.{is_plain_outcome, named};
 
 use crate::answer::{Answer, Event};
 use crate::texts::{
-    append_named, append_reply, append_response, append_terminal, append_told, append_why,
+    append_named, append_named_request, append_reply, append_response, append_terminal,
+    append_told, append_why,
 };
 use dap_body::Body;
 use dap_debuggee::Explanation;
@@ -368,5 +369,53 @@ impl Outbox {
         frame_from(&mut self.buffer, end)?;
         self.numbers = numbers;
         Ok(seq)
+    }
+
+    /// Whether a request of any name, with the own number `seq`, has at most so many bytes. Nothing is written.
+    pub fn can_ask_named(
+        &mut self,
+        alloc: Global,
+        command: &str,
+        arguments: &Option<Tree>,
+        seq: u64,
+        most: usize,
+    ) -> Result<bool, AllocError>
+        requires plain { IsTrue (is_plain_tree arguments.now) }
+        ensures fits { IfOk result (λ ok. ok ≡ request_fits most seq command.now arguments.now) }
+        ensures same { self.new ≡ self.old }
+    {
+        let end = self.buffer.len();
+        append_named_request(alloc, &mut self.buffer, seq, command, arguments)?;
+        let length = self.buffer.len() - end;
+        self.buffer.truncate(end);
+        Ok(length <= most)
+    }
+
+    /// Asks the client by a request of any name, unless its message is longer than so many bytes: whether it was.
+    pub fn ask_named(
+        &mut self,
+        alloc: Global,
+        command: &str,
+        arguments: &Option<Tree>,
+        most: usize,
+    ) -> Result<bool, AllocError>
+        requires left { self.old.numbers.used < self.old.numbers.last }
+        requires plain { IsTrue (is_plain_tree arguments.now) }
+        ensures fits { IfOk result (λ ok. ok ≡ request_fits most (self.old.numbers.used + 1) command.now arguments.now) }
+        ensures writes { IfOk result (AsksNamedIfFits most self.old self.new command.now arguments.now) }
+        ensures before { self.new.before ≡ self.old.before }
+        ensures too_long { IfOk result (λ ok. ok ≡ false → self.new ≡ self.old) }
+        ensures err { OnErr result (self.new ≡ self.old) }
+    {
+        let (seq, numbers) = self.next();
+        let end = self.buffer.len();
+        append_named_request(alloc, &mut self.buffer, seq, command, arguments)?;
+        if self.buffer.len() - end > most {
+            self.buffer.truncate(end);
+            return Ok(false);
+        }
+        frame_from(&mut self.buffer, end)?;
+        self.numbers = numbers;
+        Ok(true)
     }
 }

@@ -1,8 +1,9 @@
 //! The text of each message that an adapter writes without a body of its own.
-ghost use Rattle.std.specs.Prelude.{◌≡◌, ◌≤◌, ◌++◌, IfOk, OnOk, OnErr, IsTrue};
+ghost use Rattle.std.specs.Prelude.{◌≡◌, ◌≤◌, ◌++◌, length, IfOk, OnOk, OnErr, IsTrue};
 ghost use Rattle.dap_body.specs.Body.{event_data_in};
 ghost use Rattle.dap_envelope.specs.Canon.{canon};
-ghost use Rattle.dap_outbox.specs.Draft.{reply, emit, ask, explained, came_out, message_of, recorded_terminal};
+ghost use Rattle.dap_envelope.specs.Refusals.{max_command};
+ghost use Rattle.dap_outbox.specs.Draft.{reply, emit, ask, ask_named, explained, came_out, message_of, recorded_terminal};
 ghost use Rattle.dap_outbox.specs.InRange.{IsRequestInRange};
 ghost use Rattle.dap_outbox.specs.Outbox.{answer_of, event_of, shape_of};
 ghost use Rattle.dap_json.specs.Field.{max_seq};
@@ -192,4 +193,20 @@ pub(crate) fn append_terminal(alloc: Global, out: &mut Vec<u8>, seq: u64) -> Res
     let call = recorded_terminal(alloc)?;
     let arguments = Some(Tree::new(write_terminal(alloc, &call)?));
     append_request(alloc, out, seq, RUN_IN_TERMINAL, &arguments)
+}
+
+/// Appends the text of a request of any name, or changes nothing.
+pub(crate) fn append_named_request(
+    alloc: Global,
+    out: &mut Vec<u8>,
+    seq: u64,
+    command: &str,
+    arguments: &Option<Tree>,
+) -> Result<(), AllocError>
+    requires { IsTrue (is_plain_tree arguments.now) }
+    ensures canon { OnOk result (out.new.items ≡ out.old.items ++ canon (message_of seq (ask_named command.now arguments.now))) }
+    ensures reads_back { OnOk result (seq ≤ max_seq → length command.now ≤ max_command → CanonIsRead (message_of seq (ask_named command.now arguments.now))) }
+    ensures err { OnErr result (out.new.items ≡ out.old.items) }
+{
+    append_request(alloc, out, seq, command, arguments)
 }

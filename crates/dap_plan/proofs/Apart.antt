@@ -5,6 +5,7 @@ use Rattle.dap_tables.specs.References.{target_of}
 use Rattle.dap_plan.specs.Plan.{Made}
 use Rattle.dap_plan.specs.ReferenceLaws.{KeepsApart, IsStep, Runs, ReferencesAreApart}
 use Rattle.dap_plan.specs.Session.{Session}
+use Rattle.dap_plan.proofs.Asks.{ask-is}
 use Rattle.dap_plan.proofs.Deliveries.{delivery-is}
 use Rattle.dap_plan.proofs.Responses.{respond-moves}
 use Rattle.dap_plan.proofs.Happenings.{poll-is, emit-is}
@@ -16,7 +17,8 @@ step-apart s made (inl t) = (delivery-is s t.message t.plan made t.is t.can).sou
 step-apart s made (inr (inl t)) = ((turn-is t.view s t.plan t.is).row.outcomes made t.can).sound.moves.apart
 step-apart s made (inr (inr (inl t))) = (poll-is s made t).moves.apart
 step-apart s made (inr (inr (inr (inl t)))) = (emit-is t.name t.body s made t.can).moves.apart
-step-apart s made (inr (inr (inr (inr t)))) = (respond-moves t.entry t.outcome s made t.can).apart
+step-apart s made (inr (inr (inr (inr (inl t))))) = (respond-moves t.entry t.outcome s made t.can).apart
+step-apart s made (inr (inr (inr (inr (inr t))))) = (ask-is t.command t.arguments s made t.can).moves.apart
 
 runs-base : (later : List Made) (s new : Session) → Runs later s new → s.references.base ≤ new.references.base
 runs-base [] s new r = let same = ap (λ (x : Session). x.references.base) r in omega arith
@@ -39,5 +41,6 @@ references_are_apart = record {
   poll = λ s made is. (poll-is s made is).moves.apart;
   emit = λ name body s made is. (emit-is name body s made is).moves.apart;
   respond = λ r o s made is. (respond-moves r o s made is).apart;
+  ask = λ command arguments s made is. (ask-is command arguments s made is).moves.apart;
   stays_dead = stays_dead;
 }

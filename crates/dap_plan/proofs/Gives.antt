@@ -1,5 +1,6 @@
 -- What an answer gives is live.
 use Rattle.dap_plan.specs.GivenLaws.{EachAnswerGivesLive}
+use Rattle.dap_plan.proofs.Asks.{ask-is}
 use Rattle.dap_plan.proofs.Deliveries.{delivery-is}
 use Rattle.dap_plan.proofs.Responses.{respond-is}
 use Rattle.dap_plan.proofs.Happenings.{poll-is, emit-is}
@@ -12,4 +13,5 @@ each_answer_gives_live = record {
   poll = λ s made is. (poll-is s made is).gives;
   emit = λ name body s made is. (emit-is name body s made is).gives;
   respond = λ r o s made l is. (respond-is r o s made l is).gives;
+  ask = λ command arguments s made is. (ask-is command arguments s made is).gives;
 }

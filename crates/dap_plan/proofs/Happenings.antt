@@ -16,11 +16,11 @@ use Rattle.dap_plan.specs.Session.{Session}
 use Rattle.dap_plan.proofs.Kept.{Walked, walked-none, walked-append, walked-event}
 use Rattle.dap_plan.proofs.Moves.{IsPlain, is-plain, moves-plain}
 use Rattle.dap_plan.proofs.OwnRequests.{asks_none, none-in}
-use Rattle.dap_plan.proofs.Outcomes.{IsSound, AreBare, AsksNothing, asks-nothing, asks-well, references-plain, walked-well, bare-live}
+use Rattle.dap_plan.proofs.Outcomes.{IsSound, AreBare, AsksNothing, asks-nothing, asks-well, keeps-own, none-by-name, nothing-stays, references-plain, walked-well, bare-live}
 
 -- events alone: the kept requests stay
 told-sound : (s : Session) (m : Made) → IsPlain s m → AreBare m.drafts → m.after.used ≡ s.used + length m.drafts → Walked m.drafts (asks s.kept) (asks m.after.kept) → AsksNothing s m → IsSound (Unit {0}) s [] None m
-told-sound s m p n u w a = record { well = λ (t : Unit {0}). walked-well s m (moves-plain s m p) w u (references-plain s m n p) (asks-well s m a); moves = moves-plain s m p; stays = a.stays; gives = bare-live m.after.references m.drafts n }
+told-sound s m p n u w a = record { well = λ (t : Unit {0}). walked-well s m (nothing-stays s m a) (moves-plain s m p) w u (references-plain s m n p) (asks-well s m a); moves = moves-plain s m p; stays = a.stays; own = keeps-own s m (moves-plain s m p) u (nothing-stays s m a); by_name = none-by-name m.drafts a.none; gives = bare-live m.after.references m.drafts n }
 
 pub no_change-sound : (s : Session) → IsSound (Unit {0}) s [] None (no_change s)
 no_change-sound s = told-sound s (no_change s) (is-plain s _ refl refl refl) tt (omega arith) (walked-none (asks s.kept)) (asks-nothing s _ refl tt (λ suits. suits))

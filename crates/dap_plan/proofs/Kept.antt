@@ -1,4 +1,5 @@
 -- Kept requests with distinct numbers, and answers to some of them.
+use Rattle.serde_json.specs.Data.{Data}
 use Rattle.std.proofs.Common.{◌≡◌, ℕ, List, [], ◌∷◌, ◌++◌, Bool, true, false, Option, Some, None, refl, sym, ap, ◌∙◌, subst, append_assoc, arith, filter, true≢false, ◌≤◌, length}
 use Rattle.std.specs.Prelude.{◌==◌, ◌||◌, not, find, if◌then◌else◌}
 use Rattle.std.proofs.lemmas.Bool.Decides.{nat_tests}
@@ -10,7 +11,7 @@ use Rattle.dap_tables.specs.Outstanding.{Kept, contains_seq, without, HasDistinc
 use Rattle.dap_tables.specs.declared.entry.Entry.{Entry as Request}
 use Rattle.dap_plan.specs.Answering.{answered_by, with_seq, AnswersEach, open_after}
 use Rattle.dap_plan.specs.Handling.{answer_each}
-use Rattle.dap_outbox.specs.Draft.{Answer, Draft, reply, emit, ask}
+use Rattle.dap_outbox.specs.Draft.{Answer, Draft, reply, emit, ask, ask_named}
 use Rattle.dap_history.specs.Requests.{asked_of, asks}
 use Rattle.dap_message.specs.MessageParts.{AdapterEvent}
 use Rattle.std.proofs.lemmas.List.Sums.{length-filter, count_by-le-length}
@@ -120,6 +121,7 @@ each-append [] es open_requests e f = f
 each-append (reply r answer ∷ ds) es open_requests e f = (e.0, each-append ds es (without_answered (answered_by (reply r answer)) open_requests) e.1 f)
 each-append (emit event ∷ ds) es open_requests e f = each-append ds es (without_answered None open_requests) e f
 each-append (ask ∷ ds) es open_requests e f = each-append ds es (without_answered None open_requests) e f
+each-append (ask_named command arguments ∷ ds) es open_requests e f = each-append ds es (without_answered None open_requests) e f
 
 after-append : (ds es : List Draft) (open_requests : List Asked) → open_after (ds ++ es) open_requests ≡ open_after es (open_after ds open_requests)
 after-append [] es open_requests = refl
@@ -143,6 +145,9 @@ walked-event event qs = record { each = tt; left_is = all-open qs }
 -- nor does an own request
 pub walked-ask : (qs : List Asked) → Walked (ask ∷ []) qs qs
 walked-ask qs = record { each = tt; left_is = all-open qs }
+
+pub walked-ask_named : (command : List ℕ) (arguments : Option Data) (qs : List Asked) → Walked (ask_named command arguments ∷ []) qs qs
+walked-ask_named command arguments qs = record { each = tt; left_is = all-open qs }
 
 pub walked-one : (answer : Answer) (before : List Kept) (k : Kept) (after : List Kept) → HasDistinctSeqs (before ++ k ∷ after) → Walked (reply k.entry answer ∷ []) (asks (before ++ k ∷ after)) (asks (before ++ after))
 walked-one answer before k after d =

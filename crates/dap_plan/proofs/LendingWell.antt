@@ -19,7 +19,7 @@ use Rattle.dap_body.specs.declared.failure.Failure.{Failure}
 use Rattle.dap_body.specs.declared.failure.Failure.TheVariants.{Cancelled, TooLarge, NotInitialized, BadArguments, Busy}
 use Rattle.dap_envelope.specs.declared.message.Kind.{Kind}
 use Rattle.dap_envelope.specs.declared.message.Kind.TheVariants.{Request as RequestKind, Response, Event, Other}
-use Rattle.dap_tables.specs.Outstanding.{Kept, kept_with_mark, kept_unparked, with_mark, without, contains_seq, HasDistinctSeqs}
+use Rattle.dap_tables.specs.Outstanding.{Kept, kept_with_mark, kept_unparked, with_mark, without, contains_seq, HasDistinctSeqs, entry_with}
 use Rattle.dap_tables.specs.declared.entry.Entry.{Entry}
 use Rattle.dap_debuggee.specs.Shown.{Shown, Act, to_poll, to_start, to_end, to_resume, to_pause, Reply, done, refused, happened}
 use Rattle.dap_debuggee.specs.declared.answers.Happening.{Happening}
@@ -36,6 +36,7 @@ use Rattle.dap_outbox.specs.Draft.{Answer, Draft, reply, failure, success, plain
 use Rattle.dap_outbox.specs.Waiting.{may_be_lent, is_lent, waits_to_start, not_starting_ones}
 use Rattle.dap_plan.specs.declared.fault.AdapterFault.{AdapterFault}
 use Rattle.dap_plan.specs.declared.fault.AdapterFault.TheVariants.{RepeatedSeq, Unmatched, CommandMismatch, Ended as EndedFault}
+use Rattle.dap_plan.specs.Asking.{after_asking_named}
 use Rattle.dap_plan.specs.Emitting.{after_emitting}
 use Rattle.dap_plan.specs.Handling.{Change, ChangeResult, after_change, after_disconnect, after_parked_launch, after_query, after_resume, after_asking, after_asking_parked, after_configuration_done, after_initialize, after_launch, after_park, after_terminate, answer_each, by_reply, change_asked, change_reason, change_result, effect_of, failing, fits, plan_for, plan_of_call, plan_of_command, plan_of_turn, plan_if_opened, plan_unless, plan, query_reason, refusal, turn_of}
 use Rattle.dap_plan.specs.Laws.{CanMake}
@@ -45,7 +46,7 @@ use Rattle.dap_plan.specs.OrderLaws.{answer_to}
 use Rattle.dap_plan.specs.Plan.{Made, Plan, at_once, asking, no_change, after_answering, messages_due, plan_within_numbers}
 use Rattle.dap_plan.specs.Polling.{after_happening, after_poll_reply, has_debuggee}
 use Rattle.dap_plan.specs.Session.{Session, cancelled_by, not_cancelled_by, oldest, is_asked, query_of}
-use Rattle.dap_plan.specs.Taking.{after_answering_at_once, after_cancel, after_cancel_call, after_cancel_request, after_keeping, after_late_terminal, after_taking, after_terminal, id_in, is_cancel, plan_of_response, plan_of_terminal, takes_as}
+use Rattle.dap_plan.specs.Taking.{after_answering_at_once, after_cancel, after_cancel_call, after_cancel_request, after_keeping, after_late_terminal, after_taking, after_terminal, id_in, is_cancel, plan_of_response, plan_of_terminal, takes_as, after_own_response, takes_response_of}
 use Rattle.dap_plan.proofs.Fewer.{IsHandled}
 use Rattle.dap_plan.proofs.Kept.{IsApart, apart, eqb-self, false-left, false-right, found-passes, kept-found, same-seq}
 use Rattle.dap_plan.proofs.Turns.{afforded, not-parked, some-afforded}
@@ -323,12 +324,21 @@ response-stays false b s request_seq ok plan e = absurd (cc e)
 response-stays true false s request_seq ok plan e = absurd (cc e)
 response-stays true true s request_seq ok plan e = given-stays s (plan_of_response ok s) plan e (phase-stays (is_phase Asked s.phase) ok s)
 
+own-stays : (b : Bool) (s : Session) (request_seq : ℕ) (plan : Plan)
+    → (let given : Result Plan AdapterFault = (if b then Ok (at_once (after_own_response request_seq s)) else Err (CommandMismatch request_seq)) in given) ≡ Ok plan → AllStay s plan
+own-stays false s request_seq plan e = absurd (cc e)
+own-stays true s request_seq plan e = let p : at_once (after_own_response request_seq s) ≡ plan = cc in subst (λ (x : Plan). AllStay s x) p (stays-once s (after_own_response request_seq s) (same-stays s (after_own_response request_seq s) refl))
+
+either-stays : (o : Option Entry) (s : Session) (request_seq : ℕ) (ok : Bool) (command : List ℕ) (plan : Plan) → takes_response_of o request_seq ok command s ≡ Ok plan → AllStay s plan
+either-stays None s request_seq ok command plan e = response-stays (is_asked request_seq s.asked) (bytes_eq command run_in_terminal) s request_seq ok plan e
+either-stays (Some r) s request_seq ok command plan e = own-stays (bytes_eq command r.command) s request_seq plan e
+
 plain-stays : (s : Session) (plan : Plan) → plan ≡ at_once (no_change s) → AllStay s plan
 plain-stays s plan e = subst (λ (p : Plan). AllStay s p) (sym e) (nothing-stays s)
 
 taken-stays : (s : Session) (seq : ℕ) (kind : Kind) (plan : Plan) → takes_as seq kind s ≡ Ok plan → AllStay s plan
 taken-stays s seq (RequestKind name arguments) plan e = request-stays (is_phase Ended s.phase) (contains_seq seq s.kept) s (record { seq = seq; command = name; arguments = arguments }) plan e
-taken-stays s seq (Response request_seq ok name message body) plan e = response-stays (is_asked request_seq s.asked) (bytes_eq name run_in_terminal) s request_seq ok plan e
+taken-stays s seq (Response request_seq ok name message body) plan e = either-stays (entry_with request_seq s.own) s request_seq ok name plan e
 taken-stays s seq (Event event body) plan e = plain-stays s plan (cc)
 taken-stays s seq (Other tag) plan e = plain-stays s plan (cc)
 
@@ -390,4 +400,5 @@ opened_commands_are_lent = record {
   poll = λ s made is. polled-stays (has_debuggee s.phase) s made is;
   emit = λ name body s made is. subst (λ (x : Made). Stays s x) (sym is) (same-stays s (after_emitting name body s) refl);
   respond = λ r o s made is. subst (λ (x : Made). StaysOrCameOut r o s x) (sym is) (responded-stays r o s);
+  ask = λ command arguments s made is. subst (λ (x : Made). Stays s x) (sym is) (same-stays s (after_asking_named command arguments s) refl);
 }

@@ -1,10 +1,13 @@
 pub mod Steps
 pub mod Kept
+pub mod Own
+pub mod Merging
 pub mod Rows
 pub mod Going
 pub mod Moves
 pub mod Outcomes
 pub mod Responses
+pub mod Asks
 pub mod Turns
 pub mod Happenings
 pub mod LendingWell

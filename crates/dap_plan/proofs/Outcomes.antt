@@ -17,9 +17,9 @@ use Rattle.dap_plan.specs.Answering.{GoesWell}
 use Rattle.dap_query.specs.References.{AreLive}
 use Rattle.dap_plan.specs.GivenLaws.{given_by, answers_set_variable, AllGiveLive}
 use Rattle.dap_plan.specs.Handling.{answer_each, explained_if, failing, failing_each, fits_explained, fits_explained_each}
-use Rattle.dap_plan.specs.Laws.{CanMake}
+use Rattle.dap_plan.specs.Laws.{AskNoneByName, CanMake}
 use Rattle.dap_plan.specs.Plan.{Made, Plan, at_once, asking, after_answering, messages_due, entries_of, references_end_if}
-use Rattle.dap_outbox.specs.Draft.{Answer, success, failure, explained, came_out, plain_success, Draft, reply, emit, ask, requests_in, names_in, names_of, outs}
+use Rattle.dap_outbox.specs.Draft.{Answer, success, failure, explained, came_out, plain_success, Draft, reply, emit, ask, ask_named, named_in, requests_in, names_in, names_of, outs}
 use Rattle.dap_plan.specs.References.{references_after}
 use Rattle.dap_plan.specs.RefusalLaws.{is_for_room}
 use Rattle.dap_debuggee.specs.declared.answers.State.{State}
@@ -28,6 +28,7 @@ use Rattle.dap_plan.specs.Session.{Session, own_requests, IsAskedIn, IsOrderly, 
 use Rattle.dap_plan.proofs.Fewer.{IsHandled, fewer-handled}
 use Rattle.dap_plan.proofs.Kept.{Walked, walked-kept, all-open}
 use Rattle.dap_plan.proofs.Moves.{Moves, IsPlain, is-plain, moves-plain}
+use Rattle.dap_plan.proofs.Own.{KeepsOwn, OwnStays, none-named, own-kept}
 use Rattle.dap_plan.proofs.Steps.{references_after-append}
 
 -- ---- one step
@@ -41,6 +42,8 @@ pub record IsSound (premise : Type 0) (s : Session) (came : List Asked) (respons
   pub well : premise → GoesWell s came response m
   pub moves : Moves s m
   pub stays : Stays s m
+  pub own : KeepsOwn s m
+  pub by_name : AskNoneByName m.drafts
   pub gives : AllGiveLive m.after.references m.drafts
 
 -- what a request that is handled comes to, in so many messages
@@ -98,12 +101,21 @@ AskNone [] = Unit {0}
 AskNone (reply r answer ∷ ds) = AskNone ds
 AskNone (emit event ∷ ds) = AskNone ds
 AskNone (ask ∷ ds) = ⊥
+AskNone (ask_named command arguments ∷ ds) = ⊥
 
 pub none-asked : (used : ℕ) (ds : List Draft) → AskNone ds → requests_in used ds ≡ []
 none-asked used [] n = refl
 none-asked used (reply r answer ∷ ds) n = none-asked (used + 1) ds n
 none-asked used (emit event ∷ ds) n = none-asked (used + 1) ds n
 none-asked used (ask ∷ ds) n = absurd n
+none-asked used (ask_named command arguments ∷ ds) n = absurd n
+
+pub none-by-name : (ds : List Draft) → AskNone ds → AskNoneByName ds
+none-by-name [] n = tt
+none-by-name (reply r answer ∷ ds) n = none-by-name ds n
+none-by-name (emit event ∷ ds) n = none-by-name ds n
+none-by-name (ask ∷ ds) n = absurd n
+none-by-name (ask_named command arguments ∷ ds) n = absurd n
 
 pub each-asks-none : (answer : Answer) (ks : List Kept) → AskNone (answer_each answer ks)
 each-asks-none answer [] = tt
@@ -114,39 +126,58 @@ append-asks-none [] es n o = o
 append-asks-none (reply r answer ∷ ds) es n o = append-asks-none ds es n o
 append-asks-none (emit event ∷ ds) es n o = append-asks-none ds es n o
 append-asks-none (ask ∷ ds) es n o = absurd n
+append-asks-none (ask_named command arguments ∷ ds) es n o = absurd n
 
 -- what waits then is what waited, and what is asked
 abbrev pub AsksWell : Session → Made → Type 0
 AsksWell s m = own_requests m.after.asked ≡ without_answered None (own_requests s.asked) ++ requests_in s.used m.drafts
 
+abbrev pub own_of : Session → Option ℕ × List Kept
+own_of s = (s.asked, s.own)
+
 -- nothing is asked, and nothing answered
 pub record AsksNothing (s : Session) (m : Made) : Type 0 where
-  pub same : m.after.asked ≡ s.asked
+  pub same : own_of m.after ≡ own_of s
   pub none : AskNone m.drafts
   pub stays : Stays s m
 
-pub asks-nothing : (s : Session) (m : Made) → m.after.asked ≡ s.asked → AskNone m.drafts → Stays s m → AsksNothing s m
+pub asks-nothing : (s : Session) (m : Made) → own_of m.after ≡ own_of s → AskNone m.drafts → Stays s m → AsksNothing s m
 asks-nothing s m e n t = record { same = e; none = n; stays = t }
 
 pub asks-well : (s : Session) (m : Made) → AsksNothing s m → AsksWell s m
 asks-well s m a =
-    ap own_requests a.same
+    ap (λ (x : Option ℕ × List Kept). own_requests x.0) a.same
     ∙ (sym (append-nil (own_requests s.asked)) ∙ (ap (λ (qs : List Asked). qs ++ []) (sym (all-open (own_requests s.asked))) ∙ ap (λ (qs : List Asked). without_answered None (own_requests s.asked) ++ qs) (sym (none-asked s.used m.drafts a.none))))
+
+pub nothing-stays : (s : Session) (m : Made) → AsksNothing s m → OwnStays s m
+nothing-stays s m a = record {
+  same = ap (λ (x : Option ℕ × List Kept). x.1) a.same;
+  none = none-by-name m.drafts a.none;
+  asked = λ seq e. inl (sym (ap (λ (x : Option ℕ × List Kept). x.0) a.same) ∙ e);
+}
+
+pub own-well : (s : Session) (m : Made) → OwnStays s m → asks m.after.own ≡ without_answered None (asks s.own) ++ named_in s.used m.drafts
+own-well s m q =
+    ap asks q.same
+    ∙ (sym (append-nil (asks s.own)) ∙ (ap (λ (qs : List Asked). qs ++ []) (sym (all-open (asks s.own))) ∙ ap (λ (qs : List Asked). without_answered None (asks s.own) ++ qs) (sym (none-named s.used m.drafts q.none))))
+
+pub keeps-own : (s : Session) (m : Made) → Moves s m → m.after.used ≡ s.used + length m.drafts → OwnStays s m → KeepsOwn s m
+keeps-own s m v u q = own-kept s m q v.limits (omega arith)
 
 -- ---- outcomes by their parts
 
 -- the drafts walk the kept requests, and nothing came
-pub walked-well : (s : Session) (m : Made) → Moves s m → Walked m.drafts (asks s.kept) (asks m.after.kept) → m.after.used ≡ s.used + length m.drafts → m.after.references ≡ references_after s.references (entries_of s.used m) → AsksWell s m → GoesWell s [] None m
-walked-well s m v w u r a =
+pub walked-well : (s : Session) (m : Made) → OwnStays s m → Moves s m → Walked m.drafts (asks s.kept) (asks m.after.kept) → m.after.used ≡ s.used + length m.drafts → m.after.references ≡ references_after s.references (entries_of s.used m) → AsksWell s m → GoesWell s [] None m
+walked-well s m q v w u r a =
     let same : asks s.kept ++ [] ≡ asks s.kept = append-nil (asks s.kept) in
     let moved : Walked m.drafts (asks s.kept ++ []) (asks m.after.kept) = subst (λ (qs : List Asked). Walked m.drafts qs (asks m.after.kept)) (sym same) w in
-    record { each = moved.each; kept = sym moved.left_is; accepted = tt; asked = a; used = u; references = r; limits = v.limits }
+    record { each = moved.each; kept = sym moved.left_is; accepted = tt; asked = a; own = own-well s m q; used = u; references = r; limits = v.limits }
 
-pub outcome : (s : Session) (n : ℕ) (m : Made) → Moves s m → m.after.references ≡ references_after s.references (entries_of s.used m) → m.after.used ≡ s.used + length m.drafts → length m.drafts ≡ n
+pub outcome : (s : Session) (n : ℕ) (m : Made) → OwnStays s m → Moves s m → m.after.references ≡ references_after s.references (entries_of s.used m) → m.after.used ≡ s.used + length m.drafts → length m.drafts ≡ n
     → (HasDistinctSeqs s.kept → Walked m.drafts (asks s.kept) (asks m.after.kept)) → (HasDistinctSeqs s.kept → to_handle m.after.kept < to_handle s.kept) → (IsAskedIn s.phase s.asked → AsksWell s m) → Stays s m → AllGiveLive m.after.references m.drafts → IsOutcome s n m
-outcome s n m v r u c w f a t g =
+outcome s n m q v r u c w f a t g =
     record {
-      sound = record { well = λ (o : IsOrderly s). walked-well s m v (w o.distinct) u r (a o.asked); moves = v; stays = t; gives = g };
+      sound = record { well = λ (o : IsOrderly s). walked-well s m q v (w o.distinct) u r (a o.asked); moves = v; stays = t; own = keeps-own s m v u q; by_name = q.none; gives = g };
       count = c;
       fewer = f;
     }
@@ -154,7 +185,7 @@ outcome s n m v r u c w f a t g =
 -- no references are given, and no breakpoints set
 pub plain-outcome : (s : Session) (n : ℕ) (m : Made) → IsPlain s m → AreBare m.drafts → m.after.used ≡ s.used + length m.drafts → length m.drafts ≡ n
     → (HasDistinctSeqs s.kept → Walked m.drafts (asks s.kept) (asks m.after.kept)) → (HasDistinctSeqs s.kept → to_handle m.after.kept < to_handle s.kept) → AsksNothing s m → IsOutcome s n m
-plain-outcome s n m p names u c w f a = outcome s n m (moves-plain s m p) (references-plain s m names p) u c w f (λ suits. asks-well s m a) a.stays (bare-live m.after.references m.drafts names)
+plain-outcome s n m p names u c w f a = outcome s n m (nothing-stays s m a) (moves-plain s m p) (references-plain s m names p) u c w f (λ suits. asks-well s m a) a.stays (bare-live m.after.references m.drafts names)
 
 walked-by : (s : Session) (k : Kept) (answer : Answer) (m : Made) → IsHandled s k → m.drafts ≡ reply k.entry answer ∷ [] → m.after.kept ≡ without k.entry.seq s.kept → HasDistinctSeqs s.kept → Walked m.drafts (asks s.kept) (asks m.after.kept)
 walked-by s k answer m i ds ks d = rw (ds, ks) (walked-kept answer s.kept k d i.kept)
@@ -164,14 +195,15 @@ fewer-by s k m i ks d = rw ks (fewer-handled s k d i)
 
 -- one answer, and the request is kept no more
 pub replied : (s : Session) (k : Kept) (answer : Answer) (m : Made) → IsHandled s k → Moves s m → m.after.references ≡ references_after s.references (entries_of s.used m) → m.drafts ≡ reply k.entry answer ∷ [] → m.after.kept ≡ without k.entry.seq s.kept
-    → m.after.used ≡ s.used + 1 → m.after.asked ≡ s.asked → Stays s m → AreLive m.after.references (given_by (reply k.entry answer)) → (answers_set_variable (reply k.entry answer) ≡ true → given_by (reply k.entry answer) ≡ []) → IsOutcome s 1 m
+    → m.after.used ≡ s.used + 1 → own_of m.after ≡ own_of s → Stays s m → AreLive m.after.references (given_by (reply k.entry answer)) → (answers_set_variable (reply k.entry answer) ≡ true → given_by (reply k.entry answer) ≡ []) → IsOutcome s 1 m
 replied s k answer m i v r ds ks u same t g n =
     let one : length m.drafts ≡ 1 = ap length ds in
     let none : AskNone m.drafts = subst (λ (xs : List Draft). AskNone xs) (sym ds) tt in
-    outcome s 1 m v r (omega arith) one (walked-by s k answer m i ds ks) (fewer-by s k m i ks) (λ suits. asks-well s m (asks-nothing s m same none t)) t (subst (λ (xs : List Draft). AllGiveLive m.after.references xs) (sym ds) (g, n, tt))
+    let nothing = asks-nothing s m same none t in
+    outcome s 1 m (nothing-stays s m nothing) v r (omega arith) one (walked-by s k answer m i ds ks) (fewer-by s k m i ks) (λ suits. asks-well s m nothing) t (subst (λ (xs : List Draft). AllGiveLive m.after.references xs) (sym ds) (g, n, tt))
 
 -- and it names no references
-pub plain-reply : (s : Session) (k : Kept) (answer : Answer) (m : Made) → IsHandled s k → IsBare answer → m.drafts ≡ reply k.entry answer ∷ [] → m.after.kept ≡ without k.entry.seq s.kept → m.after.used ≡ s.used + 1 → IsPlain s m → m.after.asked ≡ s.asked → Stays s m → IsOutcome s 1 m
+pub plain-reply : (s : Session) (k : Kept) (answer : Answer) (m : Made) → IsHandled s k → IsBare answer → m.drafts ≡ reply k.entry answer ∷ [] → m.after.kept ≡ without k.entry.seq s.kept → m.after.used ≡ s.used + 1 → IsPlain s m → own_of m.after ≡ own_of s → Stays s m → IsOutcome s 1 m
 plain-reply s k answer m i e ds ks u p same t =
     replied s k answer m i (moves-plain s m p) (references-plain s m (subst (λ (xs : List Draft). AreBare xs) (sym ds) (e.0, e.1 k.entry, tt)) p) ds ks u same t (subst (λ ps. AreLive m.after.references ps) (sym (e.1 k.entry)) tt) (λ setter. e.1 k.entry)
 
@@ -190,6 +222,7 @@ abbrev pub refuses : Draft → Bool
 refuses (reply r answer) = is_refused answer
 refuses (emit event) = false
 refuses ask = false
+refuses (ask_named command arguments) = false
 
 -- none of these drafts is such a failure
 abbrev pub AreClean : List Draft → Type 0

@@ -20,7 +20,7 @@ use Rattle.dap_body.specs.declared.failure.Failure.{Failure}
 use Rattle.dap_body.specs.declared.failure.Failure.TheVariants.{NotInitialized, BadArguments, Busy, Debuggee, NotStopped, TooLarge, WrongPhase}
 use Rattle.dap_envelope.specs.declared.message.Kind.{Kind}
 use Rattle.dap_envelope.specs.declared.message.Kind.TheVariants.{Request as RequestKind, Response, Event, Other}
-use Rattle.dap_tables.specs.Outstanding.{Kept, kept_with_mark, kept_unparked, with_mark, without, contains_seq, parked_ones, unparked_ones, HasDistinctSeqs}
+use Rattle.dap_tables.specs.Outstanding.{Kept, kept_with_mark, kept_unparked, with_mark, without, contains_seq, parked_ones, unparked_ones, HasDistinctSeqs, entry_with}
 use Rattle.dap_tables.specs.declared.entry.Entry.{Entry}
 use Rattle.dap_tables.proofs.KeptLemmas.{with_mark-absent}
 use Rattle.dap_debuggee.specs.Shown.{Shown, Act, to_poll, to_start, to_end, to_resume, to_pause, Reply, done, refused, happened}
@@ -39,6 +39,7 @@ use Rattle.dap_outbox.specs.Draft.{Answer, failure, success, reply, came_out}
 use Rattle.dap_outbox.specs.Waiting.{may_be_lent, is_lent, lent_ones, waits_to_start, starting_ones, not_starting_ones}
 use Rattle.dap_plan.specs.declared.fault.AdapterFault.{AdapterFault}
 use Rattle.dap_plan.specs.declared.fault.AdapterFault.TheVariants.{RepeatedSeq, Unmatched, CommandMismatch, Ended as EndedFault}
+use Rattle.dap_plan.specs.Asking.{after_asking_named}
 use Rattle.dap_plan.specs.Emitting.{after_emitting}
 use Rattle.dap_plan.specs.Handling.{Change, ChangeResult, after_asking, after_asking_parked, after_change, after_configuration_done, after_disconnect, after_initialize, after_launch, after_park, after_parked_launch, after_query, after_resume, after_terminate, by_reply, change_asked, change_reason, change_result, effect_of, failing, fits, plan_for, plan_of_call, plan_of_command, plan_of_turn, plan_if_opened, plan_unless, query_reason, refusal, turn_of}
 use Rattle.dap_plan.specs.Laws.{CanMake}
@@ -47,7 +48,7 @@ use Rattle.dap_plan.specs.OpenedLaws.{LendsWell, LendingStaysWell}
 use Rattle.dap_plan.specs.Plan.{Made, Plan, at_once, asking, no_change, after_answering, messages_due, plan_within_numbers}
 use Rattle.dap_plan.specs.Polling.{after_happening, after_poll_reply, has_debuggee}
 use Rattle.dap_plan.specs.Session.{Session, oldest, is_asked, query_of}
-use Rattle.dap_plan.specs.Taking.{after_answering_at_once, after_cancel, after_cancel_call, after_cancel_request, after_keeping, after_late_terminal, after_taking, after_terminal, id_in, is_cancel, plan_of_response, plan_of_terminal, takes_as}
+use Rattle.dap_plan.specs.Taking.{after_answering_at_once, after_cancel, after_cancel_call, after_cancel_request, after_keeping, after_late_terminal, after_taking, after_terminal, id_in, is_cancel, plan_of_response, plan_of_terminal, takes_as, after_own_response, takes_response_of}
 use Rattle.dap_plan.proofs.Fewer.{IsHandled}
 use Rattle.dap_plan.proofs.Kept.{IsKept, IsApart, apart, eqb-self, kept-found, found-passes}
 use Rattle.dap_plan.proofs.Turns.{afforded, le-of, not-parked, some-afforded}
@@ -432,12 +433,21 @@ response-leaves false b s request_seq ok plan e = absurd (cc e)
 response-leaves true false s request_seq ok plan e = absurd (cc e)
 response-leaves true true s request_seq ok plan e = given-leaves s (plan_of_response ok s) plan e (phase-leaves (is_phase Asked s.phase) ok s)
 
+own-leaves : (b : Bool) (s : Session) (request_seq : ℕ) (plan : Plan)
+    → (let given : Result Plan AdapterFault = (if b then Ok (at_once (after_own_response request_seq s)) else Err (CommandMismatch request_seq)) in given) ≡ Ok plan → AllLeave s plan
+own-leaves false s request_seq plan e = absurd (cc e)
+own-leaves true s request_seq plan e = let p : at_once (after_own_response request_seq s) ≡ plan = cc in subst (λ (x : Plan). AllLeave s x) p (few-once s (after_own_response request_seq s) (none-few s (after_own_response request_seq s) refl refl refl))
+
+either-leaves : (o : Option Entry) (s : Session) (request_seq : ℕ) (ok : Bool) (command : List ℕ) (plan : Plan) → takes_response_of o request_seq ok command s ≡ Ok plan → AllLeave s plan
+either-leaves None s request_seq ok command plan e = response-leaves (is_asked request_seq s.asked) (bytes_eq command run_in_terminal) s request_seq ok plan e
+either-leaves (Some r) s request_seq ok command plan e = own-leaves (bytes_eq command r.command) s request_seq plan e
+
 plain-leaves : (s : Session) (plan : Plan) → plan ≡ at_once (no_change s) → AllLeave s plan
 plain-leaves s plan e = subst (λ (p : Plan). AllLeave s p) (sym e) (nothing-leaves s)
 
 taken-leaves : (s : Session) (seq : ℕ) (kind : Kind) (plan : Plan) → takes_as seq kind s ≡ Ok plan → AllLeave s plan
 taken-leaves s seq (RequestKind name arguments) plan e = request-leaves (is_phase Ended s.phase) (contains_seq seq s.kept) s (record { seq = seq; command = name; arguments = arguments }) plan e
-taken-leaves s seq (Response request_seq ok name message body) plan e = response-leaves (is_asked request_seq s.asked) (bytes_eq name run_in_terminal) s request_seq ok plan e
+taken-leaves s seq (Response request_seq ok name message body) plan e = either-leaves (entry_with request_seq s.own) s request_seq ok name plan e
 taken-leaves s seq (Event event body) plan e = plain-leaves s plan (cc)
 taken-leaves s seq (Other tag) plan e = plain-leaves s plan (cc)
 
@@ -502,6 +512,7 @@ lending_stays_well = record {
   poll = λ s made h is. polled-leaves (has_debuggee s.phase) s made is h;
   emit = λ name body s made h is. few-once s (after_emitting name body s) (none-few s (after_emitting name body s) refl refl refl) made is h;
   respond = λ r o s made h is. few-once s (after_answering r (came_out o) s) (answering-few s r (came_out o)) made is h;
+  ask = λ command arguments s made h is. few-once s (after_asking_named command arguments s) (none-few s (after_asking_named command arguments s) refl refl refl) made is h;
   none_lent = none-lent;
   starting = λ s e w. all-starting s.kept (none-lent s e w);
   others = λ s e w. all-others s.kept (none-lent s e w);

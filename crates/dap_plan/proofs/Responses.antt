@@ -22,7 +22,7 @@ use Rattle.dap_plan.specs.Responding.{IsLent, responds}
 use Rattle.dap_plan.specs.Session.{Session, IsOrderly}
 use Rattle.dap_plan.proofs.Kept.{Walked, walked-kept, IsKept}
 use Rattle.dap_plan.proofs.Moves.{Moves, is-plain, moves-plain}
-use Rattle.dap_plan.proofs.Outcomes.{IsSound, AreBare, asks-nothing, asks-well, references-plain, walked-well, bare-live}
+use Rattle.dap_plan.proofs.Outcomes.{IsSound, AreBare, asks-nothing, asks-well, keeps-own, nothing-stays, references-plain, walked-well, bare-live}
 
 -- what is kept by that number
 pub record KeptAs (among : List Kept) (r : Entry) : Type 0 where
@@ -63,11 +63,14 @@ responded-sound : (r : Entry) (o : Outcome) (s : Session) → IsLent s r → IsS
 responded-sound r o s l =
     let m : Made = after_answering r (came_out o) s in
     let plain = is-plain s m refl refl refl in
+    let nothing = asks-nothing s m refl tt (λ suits. suits) in
     let bare : AreBare m.drafts = (refl, gives-none r o (and_parts (is_parked r.seq s.kept) (may_be_lent r) l.lent).1, tt) in
     record {
-      well = λ (d : IsOrderly s). walked-well s m (moves-plain s m plain) (walked-lent o s.kept r d.distinct (kept-as r.seq s.kept r l.kept)) refl (references-plain s m bare plain) (asks-well s m (asks-nothing s m refl tt (λ suits. suits)));
+      well = λ (d : IsOrderly s). walked-well s m (nothing-stays s m nothing) (moves-plain s m plain) (walked-lent o s.kept r d.distinct (kept-as r.seq s.kept r l.kept)) refl (references-plain s m bare plain) (asks-well s m nothing);
       moves = moves-plain s m plain;
       stays = λ suits. suits;
+      own = keeps-own s m (moves-plain s m plain) refl (nothing-stays s m nothing);
+      by_name = tt;
       gives = bare-live m.after.references m.drafts bare;
     }
 

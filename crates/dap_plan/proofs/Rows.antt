@@ -1,5 +1,5 @@
 -- What each row of the table is shown by: the outcome of its effect.
-use Rattle.std.proofs.Common.{◌≡◌, ℕ, ◌+◌, List, [], ◌∷◌, ◌++◌, Bool, true, false, Option, Some, None, Ok, Err, length, refl, sym, ap, ◌∙◌, subst, arith, length-append, filter, map}
+use Rattle.std.proofs.Common.{◌≡◌, ℕ, ◌+◌, List, [], ◌∷◌, ◌++◌, Bool, true, false, Option, Some, None, Ok, Err, length, refl, sym, ap, ◌∙◌, subst, arith, length-append, filter, map, ◌<◌, ◌≤◌, inl, inr}
 use Rattle.std.specs.Prelude.{◌==◌, not, if◌then◌else◌, nat_lt}
 use Rattle.std.proofs.lemmas.List.Elements.{filter-append}
 use Rattle.std.proofs.lemmas.List.{append-nil, length-map}
@@ -43,6 +43,8 @@ use Rattle.dap_plan.proofs.Kept.{Walked, walked-none, walked-event, walked-ask, 
 use Rattle.dap_plan.proofs.Moves.{StandFew, moves-grown, moves-set, moves-plain, is-plain}
 use Rattle.dap_plan.proofs.OwnRequests.{asks_none, none-in, none-started}
 use Rattle.dap_plan.proofs.GivenBodies.{offers-none, bare-resume, lines-bare, value-bare}
+use Rattle.dap_plan.specs.Laws.{AskNoneByName}
+use Rattle.dap_plan.proofs.Own.{OwnStays}
 use Rattle.dap_plan.proofs.Outcomes.{IsBare, bare-failure, bare-success, IsOutcome, outcome, asks-nothing, AsksWell, each-asks-none, append-asks-none, references-plain, replied, plain-reply, plain-outcome, after_answering-outcome, each-bare, append-bare, is_refused, AreClean, each-clean, append-clean, IsRow, once-row, failed-row, failing-row, asking-row, either-row, bare-failing, clean-failing, failing-is, failing_each-is}
 use Rattle.dap_debuggee.specs.declared.answers.Placement.{Placement}
 
@@ -148,9 +150,14 @@ after_parked_launch-outcome s k q i last =
 one-asked : (s : Session) (m : Made) (seq : ℕ) → s.asked ≡ None → m.after.asked ≡ Some seq → requests_in s.used m.drafts ≡ own_request seq ∷ [] → AsksWell s m
 one-asked s m seq none is one = rw (none, is, one) refl
 
+-- with a number of this step, and nothing else
+terminal-stays : (s : Session) (m : Made) (seq : ℕ) → m.after.own ≡ s.own → AskNoneByName m.drafts → m.after.asked ≡ Some seq → s.used < seq → seq ≤ m.after.used → OwnStays s m
+terminal-stays s m seq same none is low high =
+    record { same = same; none = none; asked = λ n e. let both : Some seq ≡ Some n = sym is ∙ e in let one : seq ≡ n = cc in inr (subst (λ x. s.used < x) one low, subst (λ x. x ≤ m.after.used) one high) }
+
 pub after_asking-outcome : (s : Session) (k : Kept) → asks_none s.phase ≡ true → IsHandled s k → IsOutcome s 1 (after_asking s k.entry)
 after_asking-outcome s k q i =
-    outcome s 1 (after_asking s k.entry) (moves-plain s (after_asking s k.entry) (is-plain s _ refl refl refl)) (references-plain s (after_asking s k.entry) (refl, refl, tt) (is-plain s _ refl refl refl)) refl refl
+    outcome s 1 (after_asking s k.entry) (terminal-stays s (after_asking s k.entry) (s.used + 1) refl tt refl (omega arith) (omega arith)) (moves-plain s (after_asking s k.entry) (is-plain s _ refl refl refl)) (references-plain s (after_asking s k.entry) (refl, refl, tt) (is-plain s _ refl refl refl)) refl refl
     (λ (d : HasDistinctSeqs s.kept). subst (λ (qs : List Asked). Walked (ask ∷ []) (asks s.kept) qs) (sym (asks-kept_with_mark k.entry.seq true s.kept)) (walked-ask (asks s.kept)))
     (λ (d : HasDistinctSeqs s.kept). fewer-park s k d i)
     (λ suits. one-asked s (after_asking s k.entry) (s.used + 1) (none-in s.phase s.asked q suits) refl refl)
@@ -160,7 +167,7 @@ after_asking-outcome s k q i =
 pub after_asking_parked-outcome : (s : Session) (k : Kept) → asks_none s.phase ≡ true → IsHandled s k → IsOutcome s 2 (after_asking_parked s k.entry)
 after_asking_parked-outcome s k q i =
     let two : s.used + 1 + 1 ≡ s.used + 2 = omega arith in
-    outcome s 2 (after_asking_parked s k.entry) (moves-plain s (after_asking_parked s k.entry) (is-plain s _ refl refl refl)) (references-plain s (after_asking_parked s k.entry) (refl, refl, (refl, refl, tt)) (is-plain s _ refl refl refl)) refl refl
+    outcome s 2 (after_asking_parked s k.entry) (terminal-stays s (after_asking_parked s k.entry) (s.used + 2) refl tt refl (omega arith) (omega arith)) (moves-plain s (after_asking_parked s k.entry) (is-plain s _ refl refl refl)) (references-plain s (after_asking_parked s k.entry) (refl, refl, (refl, refl, tt)) (is-plain s _ refl refl refl)) refl refl
     (λ (d : HasDistinctSeqs s.kept). walked-append (reply k.entry plain_success ∷ []) (ask ∷ []) (asks s.kept) (asks (without k.entry.seq s.kept)) (asks (without k.entry.seq s.kept)) (walked-kept plain_success s.kept k d i.kept) (walked-ask (asks (without k.entry.seq s.kept))))
     (λ (d : HasDistinctSeqs s.kept). fewer-handled s k d i)
     (λ suits. one-asked s (after_asking_parked s k.entry) (s.used + 2) (none-in s.phase s.asked q suits) refl (ap (λ (n : ℕ). own_request n ∷ []) two))

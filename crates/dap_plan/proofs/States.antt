@@ -1,5 +1,5 @@
 -- The phase stays the debuggee's state.
-use Rattle.std.proofs.Common.{◌≡◌, ℕ, ◌+◌, Bool, true, false, Result, Ok, Err, length, refl, sym, subst}
+use Rattle.std.proofs.Common.{◌≡◌, ℕ, ◌+◌, Bool, true, false, Result, Ok, Err, length, refl, sym, subst, Option, Some, None, List}
 use Rattle.std.specs.Prelude.{not, if◌then◌else◌, nat_lt, nat_le, bytes_eq}
 use Rattle.dap_call.specs.Argument.{Read}
 use Rattle.dap_call.specs.Call.{call_of}
@@ -8,7 +8,7 @@ use Rattle.dap_command.specs.declared.command.Command.TheVariants as command
 use Rattle.dap_envelope.specs.declared.message.Kind.{Kind}
 use Rattle.dap_envelope.specs.declared.message.Kind.TheVariants.{Request as RequestKind, Response, Event, Other}
 use Rattle.dap_call.specs.Terminal.{run_in_terminal}
-use Rattle.dap_tables.specs.Outstanding.{contains_seq}
+use Rattle.dap_tables.specs.Outstanding.{contains_seq, entry_with}
 use Rattle.dap_tables.specs.declared.entry.Entry.{Entry as Request}
 use Rattle.dap_debuggee.specs.Laws.{state_after}
 use Rattle.dap_debuggee.specs.Shown.{to_poll, Reply, done, refused, happened}
@@ -25,7 +25,7 @@ use Rattle.dap_plan.specs.Polling.{after_happening, after_poll_reply, has_debugg
 use Rattle.dap_plan.specs.Session.{Session, is_asked}
 use Rattle.dap_plan.specs.StateLaws.{IsStateOf, KeepsState, EachStepKeepsState}
 use Rattle.dap_decision.specs.Table.{is_phase}
-use Rattle.dap_plan.specs.Taking.{is_cancel, after_cancel_call, after_cancel_request, after_keeping, after_taking, after_late_terminal, plan_of_terminal, plan_of_response, takes_as}
+use Rattle.dap_plan.specs.Taking.{is_cancel, after_cancel_call, after_cancel_request, after_keeping, after_taking, after_late_terminal, plan_of_terminal, plan_of_response, takes_as, after_own_response, takes_response_of}
 use Rattle.dap_plan.proofs.EffectRows.{starts-its-state}
 use Rattle.dap_plan.proofs.Placed.{is_unstarted, unstarted, asked-unstarted}
 use Rattle.dap_plan.proofs.Turns.{afforded, turn-is}
@@ -76,12 +76,21 @@ response-keeps first false b s request_seq ok plan e = absurd (cc e)
 response-keeps first true false s request_seq ok plan e = absurd (cc e)
 response-keeps first true true s request_seq ok plan e = given-keeps first s (plan_of_response ok s) plan e (phase-keeps first (is_phase Asked s.phase) ok s refl)
 
+own-keeps : (first : State) (b : Bool) (s : Session) (request_seq : ℕ) (plan : Plan)
+    → (let given : Result Plan AdapterFault = (if b then Ok (at_once (after_own_response request_seq s)) else Err (CommandMismatch request_seq)) in given) ≡ Ok plan → KeepsState first s plan
+own-keeps first false s request_seq plan e = absurd (cc e)
+own-keeps first true s request_seq plan e = let p : at_once (after_own_response request_seq s) ≡ plan = cc in subst (λ (x : Plan). KeepsState first s x) p (λ before h. h)
+
+either-keeps : (first : State) (o : Option Request) (s : Session) (request_seq : ℕ) (ok : Bool) (command : List ℕ) (plan : Plan) → takes_response_of o request_seq ok command s ≡ Ok plan → KeepsState first s plan
+either-keeps first None s request_seq ok command plan e = response-keeps first (is_asked request_seq s.asked) (bytes_eq command run_in_terminal) s request_seq ok plan e
+either-keeps first (Some r) s request_seq ok command plan e = own-keeps first (bytes_eq command r.command) s request_seq plan e
+
 nothing-keeps : (first : State) (s : Session) (plan : Plan) → plan ≡ at_once (no_change s) → KeepsState first s plan
 nothing-keeps first s plan e = subst (λ (p : Plan). KeepsState first s p) (sym e) (λ before h. h)
 
 taken-keeps : (first : State) (s : Session) (seq : ℕ) (kind : Kind) (plan : Plan) → takes_as seq kind s ≡ Ok plan → KeepsState first s plan
 taken-keeps first s seq (RequestKind command arguments) plan e = request-keeps first (is_phase Ended s.phase) (contains_seq seq s.kept) s (record { seq = seq; command = command; arguments = arguments }) plan e
-taken-keeps first s seq (Response request_seq ok command message body) plan e = response-keeps first (is_asked request_seq s.asked) (bytes_eq command run_in_terminal) s request_seq ok plan e
+taken-keeps first s seq (Response request_seq ok command message body) plan e = either-keeps first (entry_with request_seq s.own) s request_seq ok command plan e
 taken-keeps first s seq (Event event body) plan e = nothing-keeps first s plan (cc)
 taken-keeps first s seq (Other tag) plan e = nothing-keeps first s plan (cc)
 
@@ -111,4 +120,5 @@ each_step_keeps_state = record {
   poll = λ first s. polled-keeps first (has_debuggee s.phase) s;
   emit = λ first name body s before h. h;
   respond = λ first r o s before h. h;
+  ask = λ first command arguments s before h. h;
 }

@@ -1,21 +1,23 @@
 -- A session that goes well goes on as its history does.
-use Rattle.std.proofs.Common.{◌≡◌, ℕ, ◌+◌, List, [], ◌∷◌, ◌++◌, Bool, true, false, Option, None, length, refl, sym, ap, ◌∙◌, subst, append_assoc, arith, length-append}
-use Rattle.std.specs.Prelude.{option_to_list}
+use Rattle.std.proofs.Common.{◌≡◌, inl, inr, ℕ, ◌+◌, List, [], ◌∷◌, ◌++◌, Bool, true, false, Option, None, length, refl, sym, ap, ◌∙◌, subst, append_assoc, arith, length-append}
+use Rattle.std.specs.Prelude.{not, option_to_list}
 use Rattle.std.proofs.lemmas.List.{append-nil}
 use Rattle.dap_history.specs.Answers.{Answers, AnswersOne}
-use Rattle.dap_history.specs.History.{Entry, In, Out, ReferencesEnd, Came, Asked, Answered, waiting, without_answered, ins_of, outs_of, AreNumberedAfter, response_at, response_as, request_as, Went}
+use Rattle.dap_history.specs.History.{Entry, In, Out, ReferencesEnd, Came, Asked, Answered, waiting, has_request_seq, without_answered, ins_of, outs_of, AreNumberedAfter, response_at, response_as, request_as, Went}
 use Rattle.dap_history.specs.HistoryLaws.{HistoriesGrow}
 use Rattle.dap_envelope.specs.declared.message.Message.{Message}
 use Rattle.dap_message.specs.declared.outcome.Outcome.TheVariants.{Success, Failure}
 use Rattle.dap_plan.specs.Answering.{answered_by, AnswersEach, open_after, GoesWell}
 use Rattle.dap_plan.specs.Plan.{Made, entries_of, references_end_if}
-use Rattle.dap_outbox.specs.Draft.{success, failure, explained, came_out, Draft, reply, emit, ask, request_of, requests_in, message_of, names_of, numbered_messages, outs}
+use Rattle.dap_outbox.specs.Draft.{success, failure, explained, came_out, Draft, reply, emit, ask, ask_named, named_in, named_of, request_of, requests_in, message_of, names_of, numbered_messages, outs}
 use Rattle.dap_plan.specs.References.{references_then, references_after, references_of}
 use Rattle.dap_tables.specs.References.{LiveReferences, no_references}
 use Rattle.dap_plan.specs.Session.{Session, own_requests}
 use Rattle.dap_history.specs.Requests.{asked_of, asks}
 use Rattle.dap_plan.specs.Follows.{Follows}
+use Rattle.dap_plan.specs.Merged.{Merges}
 use Rattle.dap_plan.proofs.Kept.{all-open}
+use Rattle.dap_plan.proofs.Merging.{merges-append, merges-answered, merges-filter}
 
 -- ---- lists
 
@@ -43,6 +45,7 @@ seq-of-message n (reply r (came_out (Success body))) = refl
 seq-of-message n (reply r (came_out (Failure message body))) = refl
 seq-of-message n (emit event) = refl
 seq-of-message n ask = refl
+seq-of-message n (ask_named command arguments) = refl
 
 numbered_messages-are : (used : ℕ) (ds : List Draft) → AreNumberedAfter used (numbered_messages used ds)
 numbered_messages-are used [] = tt
@@ -62,8 +65,27 @@ response-of-message n (reply r (came_out (Success body))) = refl
 response-of-message n (reply r (came_out (Failure message body))) = refl
 response-of-message n (emit event) = refl
 response-of-message n ask = refl
+response-of-message n (ask_named command arguments) = refl
 
-request-of-message : (n : ℕ) (d : Draft) → option_to_list (request_as (message_of n d).seq (message_of n d).kind) ≡ request_of n d
+-- the own requests among drafts, of both kinds
+abbrev own_of : ℕ → Draft → List Asked
+own_of n d = request_of n d ++ named_of n d
+
+abbrev own_in : ℕ → List Draft → List Asked
+own_in used [] = []
+own_in used (d ∷ ds) = own_of (used + 1) d ++ own_in (used + 1) ds
+
+one-merged : (n : ℕ) (d : Draft) → Merges (request_of n d) (named_of n d) (own_of n d)
+one-merged n (reply r answer) = (refl, refl)
+one-merged n (emit event) = (refl, refl)
+one-merged n ask = inl ([], refl, (refl, refl))
+one-merged n (ask_named command arguments) = inr ([], refl, (refl, refl))
+
+all-merged : (used : ℕ) (ds : List Draft) → Merges (requests_in used ds) (named_in used ds) (own_in used ds)
+all-merged used [] = (refl, refl)
+all-merged used (d ∷ ds) = merges-append (request_of (used + 1) d) (named_of (used + 1) d) (own_of (used + 1) d) (requests_in (used + 1) ds) (named_in (used + 1) ds) (own_in (used + 1) ds) (one-merged (used + 1) d) (all-merged (used + 1) ds)
+
+request-of-message : (n : ℕ) (d : Draft) → option_to_list (request_as (message_of n d).seq (message_of n d).kind) ≡ own_of n d
 request-of-message n (reply r (success body names)) = refl
 request-of-message n (reply r (failure f)) = refl
 request-of-message n (reply r (explained told)) = refl
@@ -71,6 +93,7 @@ request-of-message n (reply r (came_out (Success body))) = refl
 request-of-message n (reply r (came_out (Failure message body))) = refl
 request-of-message n (emit event) = refl
 request-of-message n ask = refl
+request-of-message n (ask_named command arguments) = refl
 
 -- ---- drafts that are handed out
 
@@ -82,6 +105,7 @@ one-answered : (d : Draft) (ds : List Draft) (open_requests : List Asked) → An
 one-answered (reply r answer) ds open_requests each = ((asked_of r, each.0, refl), each.1)
 one-answered (emit event) ds open_requests each = (tt, each)
 one-answered ask ds open_requests each = (tt, each)
+one-answered (ask_named command arguments) ds open_requests each = (tt, each)
 
 pub after-outs : (laws : HistoriesGrow) (used : ℕ) (ds : List Draft) (h : List Entry) (open_requests : List Asked) → waiting Came h ≡ open_requests → Answers Came h → AnswersEach ds open_requests → After h (h ++ outs used ds) (open_after ds open_requests)
 after-outs laws used [] h open_requests w all each = rw (append-nil h) (record { waits = w; answers = all })
@@ -142,23 +166,23 @@ went-entries laws used m h all =
 
 -- ---- own requests: those that are written wait
 
-asked-outs : (laws : HistoriesGrow) (used : ℕ) (ds : List Draft) (h : List Entry) (open_requests : List Asked) → waiting Went h ≡ open_requests → waiting Went (h ++ outs used ds) ≡ open_requests ++ requests_in used ds
+asked-outs : (laws : HistoriesGrow) (used : ℕ) (ds : List Draft) (h : List Entry) (open_requests : List Asked) → waiting Went h ≡ open_requests → waiting Went (h ++ outs used ds) ≡ open_requests ++ own_in used ds
 asked-outs laws used [] h open_requests w = ap (waiting Went) (append-nil h) ∙ (w ∙ sym (append-nil open_requests))
 asked-outs laws used (d ∷ ds) h open_requests w =
     let e : Entry = Out (message_of (used + 1) d) (names_of d) in
-    let now : waiting Went (h ++ e ∷ []) ≡ open_requests ++ request_of (used + 1) d =
+    let now : waiting Went (h ++ e ∷ []) ≡ open_requests ++ own_of (used + 1) d =
     laws.waiting_then Went h e ∙ (ap (λ (qs : List Asked). qs ++ option_to_list (request_as (message_of (used + 1) d).seq (message_of (used + 1) d).kind)) (all-open (waiting Went h) ∙ w) ∙ ap (λ (qs : List Asked). open_requests ++ qs) (request-of-message (used + 1) d)) in
-    let rest = asked-outs laws (used + 1) ds (h ++ e ∷ []) (open_requests ++ request_of (used + 1) d) now in
-    let moved : waiting Went ((h ++ e ∷ []) ++ outs (used + 1) ds) ≡ open_requests ++ requests_in used (d ∷ ds) = rest ∙ append_assoc open_requests (request_of (used + 1) d) (requests_in (used + 1) ds) in
-    subst (λ (k : List Entry). waiting Went k ≡ open_requests ++ requests_in used (d ∷ ds)) (append_assoc h (e ∷ []) (outs (used + 1) ds)) moved
+    let rest = asked-outs laws (used + 1) ds (h ++ e ∷ []) (open_requests ++ own_of (used + 1) d) now in
+    let moved : waiting Went ((h ++ e ∷ []) ++ outs (used + 1) ds) ≡ open_requests ++ own_in used (d ∷ ds) = rest ∙ append_assoc open_requests (own_of (used + 1) d) (own_in (used + 1) ds) in
+    subst (λ (k : List Entry). waiting Went k ≡ open_requests ++ own_in used (d ∷ ds)) (append_assoc h (e ∷ []) (outs (used + 1) ds)) moved
 
 asked-drop : (laws : HistoriesGrow) (drops : Bool) (h : List Entry) → waiting Went (h ++ references_end_if drops) ≡ waiting Went h
 asked-drop laws true h = laws.waiting_then Went h ReferencesEnd ∙ (append-nil (without_answered None (waiting Went h)) ∙ all-open (waiting Went h))
 asked-drop laws false h = ap (waiting Went) (append-nil h)
 
-asked-entries : (laws : HistoriesGrow) (used : ℕ) (m : Made) (h : List Entry) (open_requests : List Asked) → waiting Went h ≡ open_requests → waiting Went (h ++ entries_of used m) ≡ open_requests ++ requests_in used m.drafts
+asked-entries : (laws : HistoriesGrow) (used : ℕ) (m : Made) (h : List Entry) (open_requests : List Asked) → waiting Went h ≡ open_requests → waiting Went (h ++ entries_of used m) ≡ open_requests ++ own_in used m.drafts
 asked-entries laws used m h open_requests w =
-    subst (λ (k : List Entry). waiting Went k ≡ open_requests ++ requests_in used m.drafts) (append_assoc h (references_end_if m.drops) (outs used m.drafts)) (asked-outs laws used m.drafts (h ++ references_end_if m.drops) open_requests (asked-drop laws m.drops h ∙ w))
+    subst (λ (k : List Entry). waiting Went k ≡ open_requests ++ own_in used m.drafts) (append_assoc h (references_end_if m.drops) (outs used m.drafts)) (asked-outs laws used m.drafts (h ++ references_end_if m.drops) open_requests (asked-drop laws m.drops h ∙ w))
 
 -- ---- the step
 
@@ -185,7 +209,7 @@ counted-then laws s came response m h well c =
     }
 
 -- a step over a history h that the requests `came` and the response have just joined
-pub goes_on : (laws : HistoriesGrow) (s : Session) (came : List Asked) (response : Option Answered) (m : Made) (h : List Entry) → GoesWell s came response m → waiting Came h ≡ asks s.kept ++ came → Answers Came h → waiting Went h ≡ without_answered response (own_requests s.asked) → Answers Went h → Counted s h → Follows m.after (h ++ entries_of s.used m)
+pub goes_on : (laws : HistoriesGrow) (s : Session) (came : List Asked) (response : Option Answered) (m : Made) (h : List Entry) → GoesWell s came response m → waiting Came h ≡ asks s.kept ++ came → Answers Came h → Merges (without_answered response (own_requests s.asked)) (without_answered response (asks s.own)) (waiting Went h) → Answers Went h → Counted s h → Follows m.after (h ++ entries_of s.used m)
 goes_on laws s came response m h well w all own went c =
     let dropped = after-drop laws m.drops h (asks s.kept ++ came) w all in
     let done = after-outs laws s.used m.drafts (h ++ references_end_if m.drops) (asks s.kept ++ came) dropped.waits dropped.answers well.each in
@@ -196,7 +220,9 @@ goes_on laws s came response m h well w all own went c =
       kept = well.kept ∙ sym moved.waits;
       answers = moved.answers;
       accepted = went-entries laws s.used m h went;
-      asked = well.asked ∙ sym (asked-entries laws s.used m h (without_answered response (own_requests s.asked)) own);
+      asked =
+          rw (well.asked, well.own, asked-entries laws s.used m h (waiting Went h) refl)
+          (merges-append (without_answered response (own_requests s.asked)) (without_answered response (asks s.own)) (waiting Went h) (requests_in s.used m.drafts) (named_in s.used m.drafts) (own_in s.used m.drafts) own (all-merged s.used m.drafts));
       references = count.references;
       used = count.used;
       numbered = count.numbered_so;
@@ -205,7 +231,7 @@ goes_on laws s came response m h well w all own went c =
 -- without a request that came
 pub goes_on-alone : (laws : HistoriesGrow) (s : Session) (m : Made) (h : List Entry) → GoesWell s [] None m → Follows s h → Follows m.after (h ++ entries_of s.used m)
 goes_on-alone laws s m h well f =
-    goes_on laws s [] None m h well (sym f.kept ∙ sym (append-nil (asks s.kept))) f.answers (sym f.asked ∙ sym (all-open (own_requests s.asked))) f.accepted (record { references = f.references; used = f.used; numbered_so = f.numbered })
+    goes_on laws s [] None m h well (sym f.kept ∙ sym (append-nil (asks s.kept))) f.answers (rw (all-open (own_requests s.asked), all-open (asks s.own)) f.asked) f.accepted (record { references = f.references; used = f.used; numbered_so = f.numbered })
 
 -- with a message that came
 pub goes_on-delivered : (laws : HistoriesGrow) (s : Session) (x : Message) (m : Made) (h : List Entry) → GoesWell s (option_to_list (request_as x.seq x.kind)) (response_as x.kind) m → Follows s h → Follows m.after (h ++ In x ∷ entries_of s.used m)
@@ -213,9 +239,11 @@ goes_on-delivered laws s x m h well f =
     let w : waiting Came (h ++ In x ∷ []) ≡ asks s.kept ++ option_to_list (request_as x.seq x.kind) =
     laws.waiting_then Came h (In x) ∙ ap (λ (qs : List Asked). qs ++ option_to_list (request_as x.seq x.kind)) (all-open (waiting Came h) ∙ sym f.kept) in
     let all : Answers Came (h ++ In x ∷ []) = laws.answers_then Came h (In x) f.answers tt in
-    let own : waiting Went (h ++ In x ∷ []) ≡ without_answered (response_as x.kind) (own_requests s.asked) =
-    laws.waiting_then Went h (In x) ∙ (append-nil (without_answered (response_as x.kind) (waiting Went h)) ∙ ap (without_answered (response_as x.kind)) (sym f.asked)) in
-    let went : Answers Went (h ++ In x ∷ []) = laws.answers_then Went h (In x) f.accepted (subst (λ (qs : List Asked). AnswersOne qs (response_as x.kind)) f.asked well.accepted) in
+    let left : waiting Went (h ++ In x ∷ []) ≡ without_answered (response_as x.kind) (waiting Went h) =
+    laws.waiting_then Went h (In x) ∙ append-nil (without_answered (response_as x.kind) (waiting Went h)) in
+    let own : Merges (without_answered (response_as x.kind) (own_requests s.asked)) (without_answered (response_as x.kind) (asks s.own)) (waiting Went (h ++ In x ∷ [])) =
+    rw left (merges-filter (λ (q : Asked). not (has_request_seq q.seq (response_as x.kind))) (own_requests s.asked) (asks s.own) (waiting Went h) f.asked) in
+    let went : Answers Went (h ++ In x ∷ []) = laws.answers_then Went h (In x) f.accepted (merges-answered (own_requests s.asked) (asks s.own) (waiting Went h) (response_as x.kind) f.asked well.accepted) in
     let same : outs_of (h ++ In x ∷ []) ≡ outs_of h = laws.outs_append h (In x ∷ []) ∙ append-nil (outs_of h) in
     let refs : references_of (h ++ In x ∷ []) ≡ references_of h = references_after-append no_references h (In x ∷ []) in
     let told = goes_on laws s (option_to_list (request_as x.seq x.kind)) (response_as x.kind) m (h ++ In x ∷ []) well w all own went (record { references = f.references ∙ sym refs; used = f.used ∙ ap length (sym same); numbered_so = rw same f.numbered }) in

@@ -13,12 +13,13 @@ use Rattle.dap_decision.specs.Failures.{command_of}
 use Rattle.dap_plan.specs.Handling.{turns}
 use Rattle.dap_plan.specs.Laws.{CanMake}
 use Rattle.dap_plan.specs.Plan.{Made, Plan}
-use Rattle.dap_outbox.specs.Draft.{success, failure, explained, came_out, Draft, reply, emit, ask}
+use Rattle.dap_outbox.specs.Draft.{success, failure, explained, came_out, Draft, reply, emit, ask, ask_named}
 use Rattle.dap_plan.specs.Polling.{polls}
 use Rattle.dap_plan.specs.Responding.{IsLent, responds}
 use Rattle.dap_message.specs.declared.outcome.Outcome.{Outcome}
 use Rattle.dap_message.specs.declared.outcome.Outcome.TheVariants.{Success, Failure}
 use Rattle.dap_tables.specs.declared.entry.Entry.{Entry as Request}
+use Rattle.dap_plan.specs.Asking.{asks_named}
 use Rattle.dap_plan.specs.Emitting.{emits}
 use Rattle.serde_json.specs.Data.{Data}
 use Rattle.dap_plan.specs.Session.{Session}
@@ -33,6 +34,7 @@ given_by (reply r (came_out (Success body))) = references_given_in (command_of r
 given_by (reply r (came_out (Failure message body))) = []
 given_by (emit event) = []
 given_by ask = []
+given_by (ask_named command arguments) = []
 
 -- only the answers to stackTrace, scopes, variables, evaluate and setVariable are read for references; what answers setVariable gives none
 abbrev pub is_set_variable : Option Command → Bool
@@ -43,6 +45,7 @@ abbrev pub answers_set_variable : Draft → Bool
 answers_set_variable (reply r answer) = is_set_variable (command_of r)
 answers_set_variable (emit event) = false
 answers_set_variable ask = false
+answers_set_variable (ask_named command arguments) = false
 
 -- what each gives is live
 abbrev pub AllGiveLive : LiveReferences → List Draft → Type 0
@@ -56,3 +59,4 @@ pub record EachAnswerGivesLive : Type 0 where
   pub poll : (s : Session) (made : Made) → CanMake (polls s) made → AllGiveLive made.after.references made.drafts
   pub emit : (name : List ℕ) (body : Option Data) (s : Session) (made : Made) → CanMake (emits name body s) made → AllGiveLive made.after.references made.drafts
   pub respond : (r : Request) (o : Outcome) (s : Session) (made : Made) → IsLent s r → CanMake (responds r o s) made → AllGiveLive made.after.references made.drafts
+  pub ask : (command : List ℕ) (arguments : Option Data) (s : Session) (made : Made) → CanMake (asks_named command arguments s) made → AllGiveLive made.after.references made.drafts

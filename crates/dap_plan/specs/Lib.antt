@@ -9,6 +9,8 @@ pub mod Taking
 pub mod Polling
 pub mod Emitting
 pub mod Responding
+pub mod Asking
+pub mod Merged
 pub mod Follows
 pub mod Laws
 pub mod Within

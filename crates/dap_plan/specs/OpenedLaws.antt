@@ -16,6 +16,7 @@ use Rattle.dap_tables.specs.declared.entry.Entry.{Entry}
 use Rattle.dap_debuggee.specs.Shown.{Shown}
 use Rattle.dap_outbox.specs.Draft.{failure, came_out}
 use Rattle.dap_outbox.specs.Waiting.{is_lent, lent_ones, starting_ones, not_starting_ones}
+use Rattle.dap_plan.specs.Asking.{asks_named}
 use Rattle.dap_plan.specs.Emitting.{emits}
 use Rattle.dap_plan.specs.Handling.{plan, plan_of_turn, turns}
 use Rattle.dap_plan.specs.Laws.{CanMake}
@@ -61,6 +62,7 @@ pub record OpenedCommandsAreLent : Type 0 where
   pub poll : (s : Session) (made : Made) → CanMake (polls s) made → Stays s made
   pub emit : (name : List ℕ) (body : Option Data) (s : Session) (made : Made) → CanMake (emits name body s) made → Stays s made
   pub respond : (r : Entry) (o : Outcome) (s : Session) (made : Made) → CanMake (responds r o s) made → StaysOrCameOut r o s made
+  pub ask : (command : List ℕ) (arguments : Option Data) (s : Session) (made : Made) → CanMake (asks_named command arguments s) made → Stays s made
 
 -- ---- what is lent was opened, and two places are never lent
 
@@ -77,6 +79,7 @@ pub record LendingStaysWell : Type 0 where
   pub poll : (s : Session) (made : Made) → LendsWell s → CanMake (polls s) made → LendsWell made.after
   pub emit : (name : List ℕ) (body : Option Data) (s : Session) (made : Made) → LendsWell s → CanMake (emits name body s) made → LendsWell made.after
   pub respond : (r : Entry) (o : Outcome) (s : Session) (made : Made) → LendsWell s → CanMake (responds r o s) made → LendsWell made.after
+  pub ask : (command : List ℕ) (arguments : Option Data) (s : Session) (made : Made) → LendsWell s → CanMake (asks_named command arguments s) made → LendsWell made.after
   -- with nothing opened nothing is lent, so that a start answers, and a `cancel` names, just what it did
   pub none_lent : (s : Session) → s.offers.opened ≡ [] → LendsWell s → lent_ones s.kept ≡ []
   pub starting : (s : Session) → s.offers.opened ≡ [] → LendsWell s → starting_ones s.kept ≡ parked_ones s.kept

@@ -29,7 +29,7 @@ use Rattle.dap_plan.specs.Handling.{refusal}
 use Rattle.dap_plan.specs.Handling.{ChangeResult, change_result, plan, fits, lines_asked, failing, failing_each, query_reason, change_reason, after_park, effect_of}
 use Rattle.dap_decision.specs.Failures.{thread_of}
 use Rattle.dap_plan.specs.Plan.{Made, Plan, at_once, asking, after_answering}
-use Rattle.dap_outbox.specs.Draft.{Answer, success, Draft, reply, emit, ask, requests_in}
+use Rattle.dap_outbox.specs.Draft.{Answer, success, Draft, reply, emit, ask, ask_named, requests_in}
 use Rattle.dap_outbox.specs.Waiting.{starting_ones}
 use Rattle.dap_plan.specs.Session.{Session, query_of}
 use Rattle.dap_outbox.specs.Draft.{own_request}
@@ -182,6 +182,7 @@ answer_to seq [] = None
 answer_to seq (reply r answer ∷ ds) = if r.seq == seq then Some answer else answer_to seq ds
 answer_to seq (emit event ∷ ds) = answer_to seq ds
 answer_to seq (ask ∷ ds) = answer_to seq ds
+answer_to seq (ask_named command arguments ∷ ds) = answer_to seq ds
 
 abbrev pub IsSuccess : Option Answer → Type 0
 IsSuccess (Some (success body names)) = ⊤

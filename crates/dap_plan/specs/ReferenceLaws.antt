@@ -5,6 +5,7 @@ use Rattle.serde_json.specs.Data.{Data}
 use Rattle.dap_plan.specs.Responding.{IsLent, responds}
 use Rattle.dap_message.specs.declared.outcome.Outcome.{Outcome}
 use Rattle.dap_tables.specs.declared.entry.Entry.{Entry as Request}
+use Rattle.dap_plan.specs.Asking.{asks_named}
 use Rattle.dap_plan.specs.Emitting.{emits}
 use Rattle.dap_tables.specs.declared.target.Target.{Target}
 use Rattle.dap_envelope.specs.declared.message.Message.{Message}
@@ -51,9 +52,14 @@ pub record IsResponded (s : Session) (made : Made) : Type 0 where
   pub lent : IsLent s entry
   pub can : CanMake (responds entry outcome s) made
 
--- a message was delivered, a request handled, the debuggee asked what happened, an event told by its name, or a lent request answered
+pub record IsAsked (s : Session) (made : Made) : Type 0 where
+  pub command : List ℕ
+  pub arguments : Option Data
+  pub can : CanMake (asks_named command arguments s) made
+
+-- a message was delivered, a request handled, the debuggee asked what happened, an event told by its name, a lent request answered, or a request asked by its name
 abbrev pub IsStep : Session → Made → Type 0
-IsStep s made = IsTaken s made ⊎ (IsTurned s made ⊎ (CanMake (polls s) made ⊎ (IsEmitted s made ⊎ IsResponded s made)))
+IsStep s made = IsTaken s made ⊎ (IsTurned s made ⊎ (CanMake (polls s) made ⊎ (IsEmitted s made ⊎ (IsResponded s made ⊎ IsAsked s made))))
 
 abbrev pub Runs : List Made → Session → Session → Type 0
 Runs [] s new = new ≡ s
@@ -69,5 +75,6 @@ pub record ReferencesAreApart : Type 0 where
   pub poll : (s : Session) (made : Made) → CanMake (polls s) made → KeepsApart s made
   pub emit : (name : List ℕ) (body : Option Data) (s : Session) (made : Made) → CanMake (emits name body s) made → KeepsApart s made
   pub respond : (r : Request) (o : Outcome) (s : Session) (made : Made) → CanMake (responds r o s) made → KeepsApart s made
+  pub ask : (command : List ℕ) (arguments : Option Data) (s : Session) (made : Made) → CanMake (asks_named command arguments s) made → KeepsApart s made
   -- a number that was live before all died names nothing ever after, whatever steps come
   pub stays_dead : (s new : Session) (made : Made) (later : List Made) (n : ℕ) (t : Target) → IsStep s made → made.drops ≡ true → target_of s.references n ≡ Some t → Runs later made.after new → target_of new.references n ≡ None

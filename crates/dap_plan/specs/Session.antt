@@ -1,11 +1,12 @@
 -- The state of a session at the adapter, without the bytes that come and without the debuggee.
-use Rattle.std.specs.Prelude.{◌≡◌, ℕ, ◌==◌, ◌&&◌, not, ⊤, IsTrue, List, [], ◌∷◌, length, filter, find, Bool, false, Option, Some, None, is_some}
+use Rattle.std.specs.Prelude.{◌≡◌, ℕ, ◌==◌, ◌<◌, ◌≤◌, ◌&&◌, not, ⊤, IsTrue, List, [], ◌∷◌, length, filter, find, Bool, false, Option, Some, None, is_some}
+use Rattle.std.specs.List.{AllByRecursion}
 use Rattle.dap_frame.specs.Settings.{Settings}
 use Rattle.dap_command.specs.Offer.{usual_offer}
 use Rattle.dap_command.specs.declared.offer.Offer.{Offer}
 use Rattle.dap_message.specs.Lengths.{offer_fits}
 use Rattle.dap_history.specs.History.{Asked}
-use Rattle.dap_tables.specs.Outstanding.{Kept, unparked_ones, HasDistinctSeqs}
+use Rattle.dap_tables.specs.Outstanding.{Kept, contains_seq, unparked_ones, HasDistinctSeqs}
 use Rattle.dap_decision.specs.declared.phase.Phase.{Phase}
 use Rattle.dap_decision.specs.declared.phase.Phase.TheVariants.{Fresh, Asked as AskedPhase, Ended}
 use Rattle.dap_tables.specs.Seq.{Numbers}
@@ -26,8 +27,10 @@ pub record Session : Type 0 where
   pub kept : List Kept
   pub references : LiveReferences
   pub breakpoints : SetBreakpoints
-  -- the number of the own request that is not answered: it asks for a terminal
+  -- the number of the request for a terminal that is not answered
   pub asked : Option ℕ
+  -- the requests of whoever holds the adapter that the client has not answered, in the order of their numbers
+  pub own : List Kept
   -- own sequence numbers that were given
   pub used : ℕ
 
@@ -42,6 +45,7 @@ opened_session limits offers = record {
   references = no_references;
   breakpoints = no_breakpoints;
   asked = None;
+  own = [];
   used = 0;
 }
 
@@ -81,24 +85,36 @@ to_handle kept = length (unparked_ones kept)
 
 -- ---- own requests
 
--- Specification, "RunInTerminal Request". That no more than one waits, and what it names, is this profile's choice.
+-- Specification, "RunInTerminal Request". That no more than one waits of those that the adapter asks by itself, and what it names, is this profile's choice.
 
 abbrev pub own_requests : Option ℕ → List Asked
 own_requests None = []
 own_requests (Some seq) = own_request seq ∷ []
 
--- that number is the one of the own request that is not answered
+-- that number is the one of the request for a terminal that is not answered
 abbrev pub is_asked : ℕ → Option ℕ → Bool
 is_asked request_seq None = false
 is_asked request_seq (Some seq) = seq == request_seq
 
--- An own request is not answered while a terminal is waited for; one that never was may stay so after the end, and there is none else.
+-- A request for a terminal is not answered while one is waited for; one that never was may stay so after the end, and there is none else.
 abbrev pub IsAskedIn : Phase → Option ℕ → Type 0
 IsAskedIn AskedPhase asked = IsTrue (is_some asked)
 IsAskedIn Ended asked = ⊤
 IsAskedIn _ asked = asked ≡ None
 
--- no two kept requests have the same number, and what is asked suits the phase
+-- the requests of whoever holds the adapter, beside the one for a terminal
+pub record IsOwnInOrder (s : Session) : Type 0 where
+  -- no two have the same number
+  pub distinct : HasDistinctSeqs s.own
+  pub apart : (seq : ℕ) → s.asked ≡ Some seq → contains_seq seq s.own ≡ false
+  -- each number was given
+  pub given : AllByRecursion (λ k. k.entry.seq ≤ s.used) s.own
+  pub asked_given : (seq : ℕ) → s.asked ≡ Some seq → seq ≤ s.used
+  -- a place is left for the one for a terminal
+  pub places : length s.own < s.limits.requests
+
+-- no two kept requests have the same number, what is asked suits the phase, and what is asked beside it stands apart
 pub record IsOrderly (s : Session) : Type 0 where
   pub distinct : HasDistinctSeqs s.kept
   pub asked : IsAskedIn s.phase s.asked
+  pub own : IsOwnInOrder s

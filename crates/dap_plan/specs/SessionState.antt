@@ -31,13 +31,14 @@ pub record SessionStep {D : Type 0} (follows : Goes D) (plan : Plan) (old new : 
   pub after : new.session ≡ made.after
 
 -- what holds of every session: its tables have the limits' room, and its offers fit
-pub record IsSession (limits : Settings) (offers : Offer) (table : KeptRequests) (breakpoints : BreakpointTable) (numbers : Numbers) : Type 0 where
+pub record IsSession (limits : Settings) (offers : Offer) (table : KeptRequests) (breakpoints : BreakpointTable) (numbers : Numbers) (own : KeptRequests) : Type 0 where
   pub room : table.room ≡ limits.requests
   pub orderly : IsOrderlyRequests table
   pub set : breakpoints.room ≡ limits.breakpoints
   pub last : numbers.last ≡ limits.seq
   pub used : numbers.used ≤ numbers.last
   pub fits : IsTrue (offers_fit limits offers)
+  pub own_room : own.room ≡ limits.requests
 
 -- these bytes are the messages of a step; a client with the same limit on bodies reads each of them, where the requests that they answer are in range
 pub record Tells (old : Session) (m : Made) (bytes : List ℕ) : Type 0 where

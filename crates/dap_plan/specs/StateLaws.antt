@@ -15,6 +15,7 @@ use Rattle.dap_plan.specs.Polling.{polls}
 use Rattle.dap_plan.specs.Responding.{responds}
 use Rattle.dap_message.specs.declared.outcome.Outcome.{Outcome}
 use Rattle.dap_tables.specs.declared.entry.Entry.{Entry as Request}
+use Rattle.dap_plan.specs.Asking.{asks_named}
 use Rattle.dap_plan.specs.Emitting.{emits}
 use Rattle.dap_plan.specs.Session.{Session}
 use Rattle.dap_plan.specs.Taking.{takes}
@@ -38,3 +39,4 @@ pub record EachStepKeepsState : Type 0 where
   pub poll : (first : State) (s : Session) → KeepsState first s (polls s)
   pub emit : (first : State) (name : List ℕ) (body : Option Data) (s : Session) → KeepsState first s (emits name body s)
   pub respond : (first : State) (r : Request) (o : Outcome) (s : Session) → KeepsState first s (responds r o s)
+  pub ask : (first : State) (command : List ℕ) (arguments : Option Data) (s : Session) → KeepsState first s (asks_named command arguments s)

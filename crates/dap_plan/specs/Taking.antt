@@ -13,7 +13,7 @@ use Rattle.dap_body.specs.declared.failure.Failure.TheVariants.{NotInitialized, 
 use Rattle.dap_envelope.specs.declared.message.Message.{Message}
 use Rattle.dap_envelope.specs.declared.message.Kind.{Kind}
 use Rattle.dap_envelope.specs.declared.message.Kind.TheVariants.{Request, Response, Event, Other}
-use Rattle.dap_tables.specs.Outstanding.{Kept, kept_unparked, contains_seq}
+use Rattle.dap_tables.specs.Outstanding.{Kept, kept_unparked, contains_seq, entry_with, without}
 use Rattle.dap_tables.specs.declared.entry.Entry.{Entry}
 use Rattle.dap_decision.specs.declared.phase.Phase.{Phase}
 use Rattle.dap_decision.specs.declared.phase.Phase.TheVariants.{Fresh, Asked, Ended}
@@ -112,11 +112,29 @@ plan_of_terminal false s = at_once (after_terminal s (refused None))
 abbrev pub plan_of_response : Bool → Session → Plan
 plan_of_response ok s = if is_phase Asked s.phase then plan_of_terminal ok s else at_once (after_late_terminal s)
 
-abbrev pub takes_response : ℕ → Bool → List ℕ → Session → Result Plan AdapterFault
-takes_response request_seq ok command s =
+abbrev pub takes_terminal_response : ℕ → Bool → List ℕ → Session → Result Plan AdapterFault
+takes_terminal_response request_seq ok command s =
     if not (is_asked request_seq s.asked) then Err (Unmatched request_seq)
     else (if not (bytes_eq command run_in_terminal) then Err (CommandMismatch request_seq)
     else plan_within_numbers s (plan_of_response ok s))
+
+-- To a request of whoever holds the adapter: it waits no more, and nothing else comes of it. What the response says is theirs.
+
+abbrev pub after_own_response : ℕ → Session → Made
+after_own_response request_seq s = record { drafts = []; drops = false; after = record s { own = without request_seq s.own } }
+
+abbrev pub takes_own_response : ℕ → List ℕ → Entry → Session → Result Plan AdapterFault
+takes_own_response request_seq command r s =
+    if bytes_eq command r.command then Ok (at_once (after_own_response request_seq s))
+    else Err (CommandMismatch request_seq)
+
+-- of the request of whoever holds the adapter that has this number, if there is one
+abbrev pub takes_response_of : Option Entry → ℕ → Bool → List ℕ → Session → Result Plan AdapterFault
+takes_response_of None request_seq ok command s = takes_terminal_response request_seq ok command s
+takes_response_of (Some r) request_seq ok command s = takes_own_response request_seq command r s
+
+abbrev pub takes_response : ℕ → Bool → List ℕ → Session → Result Plan AdapterFault
+takes_response request_seq ok command s = takes_response_of (entry_with request_seq s.own) request_seq ok command s
 
 -- ---- messages
 

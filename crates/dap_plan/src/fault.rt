@@ -1,4 +1,4 @@
-//! Why an adapter is closed, why an event is not told, and why a lent request is not answered.
+//! Why an adapter is closed, why an event is not told, why a lent request is not answered, and why a request is not asked.
 
 use dap_envelope::BodyRefusal;
 use dap_frame::FrameFault;
@@ -88,5 +88,35 @@ impl From<AllocError> for RespondFault {
 
     fn from(_: AllocError) -> Self {
         RespondFault::OutOfMemory
+    }
+}
+
+/// Why a request is not asked by its name: the first that holds, in this order, or memory. Nothing changes then.
+#[derive(Clone, Copy, Debug, PartialEq, Eq)]
+pub enum AskFault {
+    /// The adapter is closed by a fault.
+    Closed,
+    /// `initialize` is not answered yet, or `disconnect` is.
+    WrongPhase,
+    /// The command has more than 64 bytes: no client would read it.
+    BadName,
+    /// As many wait for their response as there is room for, less one place for the request for a terminal.
+    Full,
+    /// The body would be longer than the limit.
+    TooLarge,
+    /// No own sequence number is left.
+    SeqExhausted,
+    /// Memory was refused.
+    OutOfMemory,
+}
+
+impl From<AllocError> for AskFault {
+    ghost use Rattle.std.specs.Prelude.{◌≡◌};
+    ghost use Rattle.dap_plan.specs.declared.fault.AskFault.{AskFault};
+
+    ghost from_gives = { λ _ fault. fault ≡ AskFault.OutOfMemory };
+
+    fn from(_: AllocError) -> Self {
+        AskFault::OutOfMemory
     }
 }

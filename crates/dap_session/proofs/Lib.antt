@@ -10,3 +10,4 @@ pub mod Disconnects
 pub mod Deciding
 pub mod EmitFaults
 pub mod RespondFaults
+pub mod AskFaults

@@ -10,7 +10,7 @@ use Rattle.dap_tables.specs.declared.entry.Entry.{Entry}
 use Rattle.dap_plan.specs.SessionState.{IsSession}
 
 -- a request less
-pub session-without : (points : BreakpointTable) (limits : Settings) (offers : Offer) (old new : KeptRequests) (numbers later : Numbers) (seq : ℕ) → IsSession limits offers old points numbers → new ≡ record old { kept = without seq old.kept } → IsOrderlyRequests new → later.last ≡ limits.seq → later.used ≤ later.last → IsSession limits offers new points later
+pub session-without : {own : KeptRequests} (points : BreakpointTable) (limits : Settings) (offers : Offer) (old new : KeptRequests) (numbers later : Numbers) (seq : ℕ) → IsSession limits offers old points numbers own → new ≡ record old { kept = without seq old.kept } → IsOrderlyRequests new → later.last ≡ limits.seq → later.used ≤ later.last → IsSession limits offers new points later own
 session-without points limits offers old new numbers later seq d e o l u =
     record {
       room = rw e d.room;
@@ -19,10 +19,11 @@ session-without points limits offers old new numbers later seq d e o l u =
       last = l;
       used = u;
       fits = d.fits;
+      own_room = d.own_room;
     }
 
 -- a request parked
-pub session-marked : (points : BreakpointTable) (limits : Settings) (offers : Offer) (old new : KeptRequests) (numbers : Numbers) (seq : ℕ) → IsSession limits offers old points numbers → new ≡ record old { kept = with_mark seq true old.kept } → IsOrderlyRequests new → IsSession limits offers new points numbers
+pub session-marked : {own : KeptRequests} (points : BreakpointTable) (limits : Settings) (offers : Offer) (old new : KeptRequests) (numbers : Numbers) (seq : ℕ) → IsSession limits offers old points numbers own → new ≡ record old { kept = with_mark seq true old.kept } → IsOrderlyRequests new → IsSession limits offers new points numbers own
 session-marked points limits offers old new numbers seq d e o =
     record {
       room = rw e d.room;
@@ -31,10 +32,11 @@ session-marked points limits offers old new numbers seq d e o =
       last = d.last;
       used = d.used;
       fits = d.fits;
+      own_room = d.own_room;
     }
 
 -- a request more
-pub session-pushed : (points : BreakpointTable) (limits : Settings) (offers : Offer) (old new : KeptRequests) (numbers : Numbers) (r : Entry) → IsSession limits offers old points numbers → new ≡ record old { kept = old.kept ++ kept_unparked r ∷ [] } → IsOrderlyRequests new → IsSession limits offers new points numbers
+pub session-pushed : {own : KeptRequests} (points : BreakpointTable) (limits : Settings) (offers : Offer) (old new : KeptRequests) (numbers : Numbers) (r : Entry) → IsSession limits offers old points numbers own → new ≡ record old { kept = old.kept ++ kept_unparked r ∷ [] } → IsOrderlyRequests new → IsSession limits offers new points numbers own
 session-pushed points limits offers old new numbers r d e o =
     record {
       room = rw e d.room;
@@ -43,18 +45,19 @@ session-pushed points limits offers old new numbers r d e o =
       last = d.last;
       used = d.used;
       fits = d.fits;
+      own_room = d.own_room;
     }
 
 -- numbers given
-pub session-spent : (points : BreakpointTable) (limits : Settings) (offers : Offer) (table : KeptRequests) (numbers later : Numbers) → IsSession limits offers table points numbers → later.last ≡ limits.seq → later.used ≤ later.last → IsSession limits offers table points later
-session-spent points limits offers table numbers later d l u = record { room = d.room; orderly = d.orderly; set = d.set; last = l; used = u; fits = d.fits }
+pub session-spent : {own : KeptRequests} (points : BreakpointTable) (limits : Settings) (offers : Offer) (table : KeptRequests) (numbers later : Numbers) → IsSession limits offers table points numbers own → later.last ≡ limits.seq → later.used ≤ later.last → IsSession limits offers table points later own
+session-spent points limits offers table numbers later d l u = record { room = d.room; orderly = d.orderly; set = d.set; last = l; used = u; fits = d.fits; own_room = d.own_room }
 
 -- those that were parked less
-pub session-unparked : (points : BreakpointTable) (limits : Settings) (offers : Offer) (old new : KeptRequests) (numbers later : Numbers) → IsSession limits offers old points numbers → new ≡ record old { kept = not_starting_ones old.kept } → IsOrderlyRequests new → later.last ≡ limits.seq → later.used ≤ later.last → IsSession limits offers new points later
-session-unparked points limits offers old new numbers later d e o l u = record { room = rw e d.room; orderly = o; set = d.set; last = l; used = u; fits = d.fits }
+pub session-unparked : {own : KeptRequests} (points : BreakpointTable) (limits : Settings) (offers : Offer) (old new : KeptRequests) (numbers later : Numbers) → IsSession limits offers old points numbers own → new ≡ record old { kept = not_starting_ones old.kept } → IsOrderlyRequests new → later.last ≡ limits.seq → later.used ≤ later.last → IsSession limits offers new points later own
+session-unparked points limits offers old new numbers later d e o l u = record { room = rw e d.room; orderly = o; set = d.set; last = l; used = u; fits = d.fits; own_room = d.own_room }
 
 -- a request less, and those that were parked
-pub session-settled : (points : BreakpointTable) (limits : Settings) (offers : Offer) (old mid new : KeptRequests) (numbers later : Numbers) (seq : ℕ) → IsSession limits offers old points numbers → mid ≡ record old { kept = without seq old.kept } → IsOrderlyRequests mid → new ≡ record mid { kept = not_starting_ones mid.kept } → IsOrderlyRequests new → later.last ≡ limits.seq → later.used ≤ later.last → IsSession limits offers new points later
+pub session-settled : {own : KeptRequests} (points : BreakpointTable) (limits : Settings) (offers : Offer) (old mid new : KeptRequests) (numbers later : Numbers) (seq : ℕ) → IsSession limits offers old points numbers own → mid ≡ record old { kept = without seq old.kept } → IsOrderlyRequests mid → new ≡ record mid { kept = not_starting_ones mid.kept } → IsOrderlyRequests new → later.last ≡ limits.seq → later.used ≤ later.last → IsSession limits offers new points later own
 session-settled points limits offers old mid new numbers later seq d e m f o l u =
     let one = session-without points limits offers old mid numbers later seq d e m l u in
     record {
@@ -64,4 +67,5 @@ session-settled points limits offers old mid new numbers later seq d e m f o l u
       last = l;
       used = u;
       fits = d.fits;
+      own_room = d.own_room;
     }

@@ -17,7 +17,7 @@ ghost use Rattle.dap_decision.specs.Table.{is_phase};
 ghost use Rattle.dap_decision.specs.declared.phase.Phase.TheVariants.{Asked};
 ghost use Rattle.dap_plan.specs.SessionState.{MadeBy, Carries, HasTaken, IsRefusedFor, IsUnasked, NotTaken};
 ghost use Rattle.dap_session.specs.PrivateReplies.{reply_of};
-ghost use Rattle.dap_plan.specs.Taking.{after_terminal, plan_of_response, plan_of_terminal, takes_response};
+ghost use Rattle.dap_plan.specs.Taking.{after_terminal, plan_of_response, plan_of_terminal, takes_response, takes_terminal_response};
 
 use crate::effects::start_phase;
 use crate::reply::ActReply;
@@ -295,7 +295,33 @@ impl<D: Debuggee + Drop> Session<D> {
         Ok(())
     }
 
-    /// Takes a response.
+    /// Takes a response to the request for a terminal.
+    fn take_terminal_response(
+        &mut self,
+        alloc: Global,
+        out: &mut Outbox,
+        request_seq: u64,
+        success: bool,
+        command: &Text,
+    ) -> Result<(), AdapterFault>
+        requires ready { IsReady out.old (numbers_of self.old.session) }
+        ensures taken { OnOk result (HasTaken D.follows (takes_terminal_response request_seq success command.now self.old.session) self.old self.new out.new.bytes) }
+        ensures refused { IfErr result (λ fault. NotTaken fault (takes_terminal_response request_seq success command.now self.old.session)) }
+        ensures unasked { OnErr result (IsUnasked (some_plan (takes_terminal_response request_seq success command.now self.old.session)) self.old.debuggee self.new.debuggee) }
+        ensures memory { IsErrOf result AdapterFault.OutOfMemory → is_phase Asked self.old.session.phase ≡ true }
+        ensures err { OnErr result (self.new.session ≡ self.old.session) }
+        ensures before { out.new.before ≡ out.old.before }
+    {
+        if !is_asked(self.asked, request_seq) {
+            return Err(AdapterFault::Unmatched { request_seq });
+        }
+        if command.as_str() != RUN_IN_TERMINAL {
+            return Err(AdapterFault::CommandMismatch { request_seq });
+        }
+        self.take_answer(alloc, out, success)
+    }
+
+    /// Takes a response to a request of this end: a terminal comes, or whoever holds the session is answered.
     pub(crate) fn take_response(
         &mut self,
         alloc: Global,
@@ -312,12 +338,13 @@ impl<D: Debuggee + Drop> Session<D> {
         ensures err { OnErr result (self.new.session ≡ self.old.session) }
         ensures before { out.new.before ≡ out.old.before }
     {
-        if !is_asked(self.asked, request_seq) {
-            return Err(AdapterFault::Unmatched { request_seq });
+        match self.answers_own(request_seq, command) {
+            None => self.take_terminal_response(alloc, out, request_seq, success, command),
+            Some(false) => Err(AdapterFault::CommandMismatch { request_seq }),
+            Some(true) => {
+                self.end_own(request_seq);
+                Ok(())
+            }
         }
-        if command.as_str() != RUN_IN_TERMINAL {
-            return Err(AdapterFault::CommandMismatch { request_seq });
-        }
-        self.take_answer(alloc, out, success)
     }
 }

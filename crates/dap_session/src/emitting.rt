@@ -18,8 +18,8 @@ use dap_outbox::Outbox;
 use dap_plan::EmitFault;
 use std::alloc::{AllocError, Global};
 
-/// Whether events are told by their names in a phase.
-fn tells_events(phase: Phase) -> bool
+/// Whether events are told, and requests asked, by their names in a phase.
+pub(crate) fn tells_events(phase: Phase) -> bool
     ensures { result ≡ tells_events phase }
 {
     !matches!(phase, Phase::Fresh | Phase::Ended)

@@ -1,6 +1,6 @@
 //! A session with its debuggee: what is kept, and how it changes.
 ghost use Rattle.dap_session.specs.SessionCalls.{fresh_state, opened_state, over_debuggee};
-ghost use Rattle.std.specs.Prelude.{◌≡◌, ◌+◌, ◌≤◌, ◌<◌, [], ◌∷◌, ◌++◌, length, IfOk, IsTrue, true, false, not, nat_lt, None};
+ghost use Rattle.std.specs.Prelude.{◌≡◌, ◌+◌, ◌≤◌, ◌<◌, [], ◌∷◌, ◌++◌, length, IfOk, OnErr, OnOk, IsTrue, true, false, not, nat_lt, None};
 ghost use Rattle.std.specs.Option.{option_copied};
 ghost use Rattle.dap_outbox.specs.Outbox.{IsReady};
 ghost use Rattle.dap_tables.specs.Outstanding.{entries, without, with_mark, contains_seq, kept_unparked, IsOrderlyRequests};
@@ -13,6 +13,7 @@ ghost use Rattle.dap_debuggee.specs.Laws.{is_short};
 ghost use Rattle.dap_debuggee.specs.Shown.{to_start, to_resume, to_pause, to_poll, to_end, done, happened};
 
 use crate::offers::usual_offers;
+use crate::own::OwnRequests;
 use crate::reply::ActReply;
 use dap_command::{Offer, SourceKey};
 use dap_debuggee::{ActFault, Debuggee, Happening, HasMail, How};
@@ -33,8 +34,10 @@ pub struct Session<D: Debuggee + Drop> {
     pub(crate) queries: Queries,
     pub(crate) kept: Outstanding,
     pub(crate) breakpoints: Breakpoints,
-    /// The number of the own request that is not answered.
+    /// The number of the request for a terminal that is not answered.
     pub(crate) asked: Option<u64>,
+    /// Those of whoever holds the session that are not answered.
+    pub(crate) own: OwnRequests,
     pub(crate) numbers: Seq,
     /// What it offers.
     offers: Offer,
@@ -60,12 +63,13 @@ impl<D: Debuggee + Drop> Model for Session<D> {
         references = a.queries.references;
         breakpoints = a.breakpoints.breakpoints;
         asked = a.asked;
+        own = a.own.kept;
         used = a.numbers.used;
       };
       debuggee = a.debuggee;
     } };
 
-    ghost invariant = { λ a. IsSession a.queries.limits a.offers a.kept a.breakpoints a.numbers };
+    ghost invariant = { λ a. IsSession a.queries.limits a.offers a.kept a.breakpoints a.numbers a.own };
 }
 
 impl<D: Debuggee + Drop> Session<D> {
@@ -99,6 +103,7 @@ impl<D: Debuggee + Drop> Session<D> {
             kept,
             breakpoints,
             asked: None,
+            own: OwnRequests::none(limits.requests()),
             numbers,
             offers,
             debuggee,
@@ -142,7 +147,7 @@ impl<D: Debuggee + Drop> Session<D> {
         self.breakpoints.of_source(source)
     }
 
-    /// How many own requests are not answered.
+    /// How many requests for a terminal are not answered.
     pub fn asked(&self) -> usize
         ensures { result ≡ length (own_requests self.now.session.asked) }
     {
@@ -150,6 +155,14 @@ impl<D: Debuggee + Drop> Session<D> {
             None => 0,
             Some(_) => 1,
         }
+    }
+
+    /// How many requests of whoever holds the session are not answered.
+    pub fn asked_by_name(&self) -> usize
+        ensures own { result ≡ length self.now.session.own }
+        ensures bound { result ≤ self.now.session.limits.requests }
+    {
+        self.own.len()
     }
 
     /// The requests that are lent, by arrival: each is answered by [`Session::respond`].
@@ -279,6 +292,31 @@ impl<D: Debuggee + Drop> Session<D> {
         self.numbers = out.numbers();
     }
 
+    /// Ends with a request that was asked, and with what was written.
+    pub(crate) fn commit_own(
+        &mut self,
+        alloc: Global,
+        out: &Outbox,
+        request: Entry,
+    ) -> Result<(), AllocError>
+        requires last { out.now.numbers.last ≡ self.old.session.limits.seq }
+        requires new { contains_seq request.seq self.old.session.own ≡ false }
+        requires room { length self.old.session.own < self.old.session.limits.requests }
+        ensures ok { OnOk result (self.new ≡ record self.old { session = record self.old.session { own = self.old.session.own ++ kept_unparked request ∷ []; used = out.now.numbers.used } }) }
+        ensures err { OnErr result (self.new ≡ self.old) }
+    {
+        self.own.put(alloc, request)?;
+        self.numbers = out.numbers();
+        Ok(())
+    }
+
+    /// A request of whoever holds the session waits no more.
+    pub(crate) fn end_own(&mut self, request_seq: u64)
+        ensures { self.new ≡ record self.old { session = record self.old.session { own = without request_seq self.old.session.own } } }
+    {
+        self.own.take(request_seq);
+    }
+
     /// The outbox of a step, behind what a buffer has, which is empty until it is given back.
     pub(crate) fn outbox_behind(&self, alloc: Global, out: &mut Vec<u8>) -> Outbox
         ensures ready { IsReady result (numbers_of self.now.session) }
@@ -401,7 +439,7 @@ pub(crate) fn give_back(outbox: Outbox, is_made: bool, out: &mut Vec<u8>)
 }
 
 /// Keeps a request in a table that has room for it.
-fn put_in(kept: &mut Outstanding, request: Entry)
+pub(crate) fn put_in(kept: &mut Outstanding, request: Entry)
     requires new { contains_seq request.seq kept.old.kept ≡ false }
     requires room { length kept.old.kept < kept.old.room }
     ensures kept { kept.new ≡ record kept.old { kept = kept.old.kept ++ kept_unparked request ∷ [] } }

@@ -1,5 +1,5 @@
 -- What stands holds from two fresh ends on, in every schedule.
-use Rattle.std.proofs.Common.{[], false, refl, sym, subst}
+use Rattle.std.proofs.Common.{◌≤◌, [], arith, false, refl, sym, subst}
 use Rattle.dap_ends.proofs.Announcements.{announces}
 use Rattle.dap_ends.proofs.PairTranscripts.{writes}
 use Rattle.dap_frame.specs.Settings.{Settings, AreInRange}
@@ -11,8 +11,9 @@ use Rattle.dap_world.proofs.ClientStepping.{send-stands, down-stands, answer-sta
 use Rattle.dap_world.proofs.Standing.{Stands}
 use Rattle.dap_world.proofs.Stepping.{Laws, turn-stands, poll-stands, emit-stands, up-stands}
 
-unfoldable pub fresh-stands : {D : Type 0} → Laws → (limits : Settings) (debuggee : D) → Stands limits (fresh_world limits debuggee)
-fresh-stands laws limits debuggee =
+unfoldable pub fresh-stands : {D : Type 0} → Laws → (limits : Settings) (debuggee : D) → AreInRange limits → Stands limits (fresh_world limits debuggee)
+fresh-stands laws limits debuggee r =
+    let least : 2 ≤ limits.requests = r.requests.0 in
     record {
       client_limits = refl;
       adapter_limits = refl;
@@ -24,7 +25,8 @@ fresh-stands laws limits debuggee =
       kept = tt;
       down = tt;
       client_within = laws.client_stays.fresh limits;
-      adapter_within = laws.adapter_stays.opened limits usual_offer;
+      adapter_within = laws.adapter_stays.opened limits usual_offer (omega arith);
+      none_own = refl;
       quiet = λ e. refl;
     }
 
@@ -43,6 +45,7 @@ stands-over limits w debuggee g =
       down = g.down;
       client_within = g.client_within;
       adapter_within = g.adapter_within;
+      none_own = g.none_own;
       quiet = g.quiet;
     }
 
@@ -57,5 +60,5 @@ step-stands laws shown follows limits old new r (by_emitting name body t) g = (e
 step-stands laws shown follows limits old new r (by_exchanging t) g = subst (λ w. Stands limits w) (sym t.all_else) (stands-over limits old new.adapter.debuggee g)
 
 pub schedule-stands : {D : Type 0} (laws : Laws) (shown : D → Shown) (follows : Goes D) (limits : Settings) (debuggee : D) (w : World D) → AreInRange limits → Schedule shown follows limits debuggee w → Stands limits w
-schedule-stands laws shown follows limits debuggee _ r starts = fresh-stands laws limits debuggee
+schedule-stands laws shown follows limits debuggee _ r starts = fresh-stands laws limits debuggee r
 schedule-stands laws shown follows limits debuggee _ r (goes v w s t) = step-stands laws shown follows limits v w r t (schedule-stands laws shown follows limits debuggee v r s)

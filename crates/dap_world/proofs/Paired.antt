@@ -16,7 +16,7 @@ use Rattle.dap_plan.specs.Answering.{GoesWell}
 use Rattle.dap_plan.specs.GivenLaws.{given_by}
 use Rattle.dap_plan.specs.Plan.{Made, written_by}
 use Rattle.dap_message.specs.declared.outcome.Outcome.TheVariants as outcome
-use Rattle.dap_outbox.specs.Draft.{success, failure, explained, came_out, Draft, reply, emit, ask, message_of, numbered_messages, requests_in}
+use Rattle.dap_outbox.specs.Draft.{success, failure, explained, came_out, Draft, reply, emit, ask, ask_named, message_of, numbered_messages, requests_in}
 use Rattle.dap_plan.specs.Session.{Session, own_requests}
 use Rattle.dap_plan.specs.SessionState.{SessionState}
 use Rattle.dap_client.specs.Projection.{references_seen}
@@ -49,6 +49,7 @@ note-told n (reply r (came_out (outcome.Success body))) named h g = ap (λ (refs
 note-told n (reply r (came_out (outcome.Failure message body))) named h g = refl
 note-told n (emit event) named h g = refl
 note-told n ask named h g = absurd h
+note-told n (ask_named command arguments) named h g = absurd h
 
 pub numbered-seen : (used : ℕ) (ds : List Draft) (named : List Ref) → AllHarmless ds → AllGive named ds → notes_seen (numbered_messages used ds) ≡ numbered_notes used named (all_told ds)
 numbered-seen used [] named h g = refl
@@ -67,6 +68,7 @@ none-requested used [] h = refl
 none-requested used (reply r answer ∷ ds) h = none-requested (used + 1) ds h.1
 none-requested used (emit event ∷ ds) h = none-requested (used + 1) ds h.1
 none-requested used (ask ∷ ds) h = absurd h.0
+none-requested used (ask_named command arguments ∷ ds) h = absurd h.0
 
 -- where none is made and none is answered they stay
 pub own-stays : (s : Session) (came : List Asked) (made : Made) → GoesWell s came None made → AllHarmless made.drafts → own_requests made.after.asked ≡ own_requests s.asked

@@ -21,10 +21,10 @@ use Rattle.dap_envelope.specs.declared.message.Kind.{Kind}
 use Rattle.dap_envelope.specs.declared.message.Kind.TheVariants.{Request, Response, Event, Other}
 use Rattle.dap_envelope.specs.declared.message.Message.{Message}
 use Rattle.dap_message.specs.declared.outcome.Outcome.TheVariants as outcome
-use Rattle.dap_outbox.specs.Draft.{Draft, reply, emit, ask, success, failure, explained, came_out, numbered_messages, own_request}
+use Rattle.dap_outbox.specs.Draft.{Draft, reply, emit, ask, ask_named, success, failure, explained, came_out, numbered_messages, own_request}
 use Rattle.dap_plan.specs.Answering.{AnswersEach, GoesWell, answered_by, open_after, with_seq}
 use Rattle.dap_plan.specs.Carried.{Goes}
-use Rattle.dap_plan.specs.Laws.{CanMake, can_make}
+use Rattle.dap_plan.specs.Laws.{AskNoneByName, CanMake, can_make}
 use Rattle.dap_plan.specs.Plan.{Made}
 use Rattle.dap_plan.specs.Polling.{polls}
 use Rattle.dap_plan.specs.Emitting.{emits}
@@ -144,21 +144,23 @@ module _ (by : ByNumber) (n : ℕ) where
       (answers-one r used (reply r (came_out (outcome.Failure message body))) (picked open_requests r.seq (asked_of r) h a.0), responses-are (used + 1) ds (without_answered (answered_by (reply r (came_out (outcome.Failure message body)))) open_requests) a.1 (all-filter (IsSent by n) (λ (q : Asked). not (has_request_seq q.seq (answered_by (reply r (came_out (outcome.Failure message body)))))) open_requests h))
   responses-are used (emit event ∷ ds) open_requests a h = responses-are (used + 1) ds (without_answered None open_requests) a (all-filter (IsSent by n) (λ (q : Asked). not (has_request_seq q.seq None)) open_requests h)
   responses-are used (ask ∷ ds) open_requests a h = responses-are (used + 1) ds (without_answered None open_requests) a (all-filter (IsSent by n) (λ (q : Asked). not (has_request_seq q.seq None)) open_requests h)
+  responses-are used (ask_named command arguments ∷ ds) open_requests a h = responses-are (used + 1) ds (without_answered None open_requests) a (all-filter (IsSent by n) (λ (q : Asked). not (has_request_seq q.seq None)) open_requests h)
 
   -- and what stays open was
   pub open-are : (ds : List Draft) (qs : List Asked) → All (IsSent by n) qs → All (IsSent by n) (open_after ds qs)
   open-are [] qs h = h
   open-are (d ∷ ds) qs h = open-are ds (without_answered (answered_by d) qs) (all-filter (IsSent by n) (λ (q : Asked). not (has_request_seq q.seq (answered_by d))) qs h)
 
-own-are : (used : ℕ) (ds : List Draft) → All IsOwn (requests_among (numbered_messages used ds))
-own-are used [] = tt
-own-are used (reply r (success body names) ∷ ds) = own-are (used + 1) ds
-own-are used (reply r (failure f) ∷ ds) = own-are (used + 1) ds
-own-are used (reply r (explained w) ∷ ds) = own-are (used + 1) ds
-own-are used (reply r (came_out (outcome.Success body)) ∷ ds) = own-are (used + 1) ds
-own-are used (reply r (came_out (outcome.Failure message body)) ∷ ds) = own-are (used + 1) ds
-own-are used (emit event ∷ ds) = own-are (used + 1) ds
-own-are used (ask ∷ ds) = (refl, own-are (used + 1) ds)
+own-are : (used : ℕ) (ds : List Draft) → AskNoneByName ds → All IsOwn (requests_among (numbered_messages used ds))
+own-are used [] n = tt
+own-are used (reply r (success body names) ∷ ds) n = own-are (used + 1) ds n
+own-are used (reply r (failure f) ∷ ds) n = own-are (used + 1) ds n
+own-are used (reply r (explained w) ∷ ds) n = own-are (used + 1) ds n
+own-are used (reply r (came_out (outcome.Success body)) ∷ ds) n = own-are (used + 1) ds n
+own-are used (reply r (came_out (outcome.Failure message body)) ∷ ds) n = own-are (used + 1) ds n
+own-are used (emit event ∷ ds) n = own-are (used + 1) ds n
+own-are used (ask ∷ ds) n = (refl, own-are (used + 1) ds n)
+own-are used (ask_named command arguments ∷ ds) n = absurd n
 
 -- ---- what the client takes
 
@@ -269,9 +271,9 @@ answer-sent {D} q terminal old new t g =
     subst (λ (x : World D). Sent x) (sym t.is) sent
 
 -- the adapter made a step, of what came and what is left under way to it
-made-sent : {D : Type 0} (old : World D) (ups : List Message) (came : List Asked) (response : Option Answered) (made : Made) (v : D) (g : Sent old) → GoesWell old.adapter.session came response made → All (IsSent g.by old.client.used) came
+made-sent : {D : Type 0} (old : World D) (ups : List Message) (came : List Asked) (response : Option Answered) (made : Made) (v : D) (g : Sent old) → GoesWell old.adapter.session came response made → AskNoneByName made.drafts → All (IsSent g.by old.client.used) came
     → All (IsSent g.by old.client.used) (requests_among ups) → All IsOwnResponse (responses_among ups) → Sent (world_made old ups made v)
-made-sent {D} old ups came response made v g well c u o =
+made-sent {D} old ups came response made v g well by_name c u o =
     let s : Session = old.adapter.session in
     let n = old.client.used in
     let opened : All (IsSent g.by n) (asks s.kept ++ came) = all-append (IsSent g.by n) (asks s.kept) came g.kept c in
@@ -282,7 +284,7 @@ made-sent {D} old ups came response made v g well c u o =
       kept = subst (λ (z : List Asked). All (IsSent g.by n) z) (sym well.kept) (open-are g.by n made.drafts (asks s.kept ++ came) opened);
       down = responses-more (IsResponse g.by n) old.down (numbered_messages s.used made.drafts) g.down (responses-are g.by n s.used made.drafts (asks s.kept ++ came) well.each opened);
       incoming = g.incoming;
-      own_down = requests-more IsOwn old.down (numbered_messages s.used made.drafts) g.own_down (own-are s.used made.drafts);
+      own_down = requests-more IsOwn old.down (numbered_messages s.used made.drafts) g.own_down (own-are s.used made.drafts by_name);
       own_up = o;
     }
 
@@ -306,7 +308,7 @@ module _ {D : Type 0} (laws : Laws) (shown : D → Shown) (follows : Goes D) (li
       let well : GoesWell s came (response_as t.message.kind) made = laws.goes_well.take s t.message t.plan made (orderly s st.adapter_within) t.taken can in
       let asked = requests-first (IsSent g.by old.client.used) (request_as t.message.seq t.message.kind) (requests_among t.later) (subst (λ (z : List Message). All (IsSent g.by old.client.used) (requests_among z)) t.first g.up) in
       let answered = responses-first IsOwnResponse (response_as t.message.kind) (responses_among t.later) (subst (λ (z : List Message). All IsOwnResponse (responses_among z)) t.first g.own_up) in
-      subst (λ (x : World D). Sent x) (sym (written follows old new t.later t.plan t.step.adapter t.step.session t.step.is)) (made-sent old t.later came (response_as t.message.kind) made v g well asked.0 asked.1 answered.1)
+      subst (λ (x : World D). Sent x) (sym (written follows old new t.later t.plan t.step.adapter t.step.session t.step.is)) (made-sent old t.later came (response_as t.message.kind) made v g well (laws.goes_well.by_name.take s t.message t.plan made t.taken can) asked.0 asked.1 answered.1)
 
   turn-sent : (old new : World D) → Turns shown follows old new → Stands limits old → Sent old → Sent new
   turn-sent old new t st g =
@@ -315,7 +317,7 @@ module _ {D : Type 0} (laws : Laws) (shown : D → Shown) (follows : Goes D) (li
       let v = t.step.adapter.debuggee in
       let can : CanMake t.plan made = can_make follows t.plan old.adapter.debuggee v made t.step.session.carried in
       let well : GoesWell s [] None made = laws.goes_well.turn (shown old.adapter.debuggee) s t.plan made (orderly s st.adapter_within) t.turned can in
-      subst (λ (x : World D). Sent x) (sym (written follows old new old.up t.plan t.step.adapter t.step.session t.step.is)) (made-sent old old.up [] None made v g well tt g.up g.own_up)
+      subst (λ (x : World D). Sent x) (sym (written follows old new old.up t.plan t.step.adapter t.step.session t.step.is)) (made-sent old old.up [] None made v g well (laws.goes_well.by_name.turn (shown old.adapter.debuggee) s t.plan made t.turned can) tt g.up g.own_up)
 
   poll-sent : (old new : World D) → Polls follows old new → Stands limits old → Sent old → Sent new
   poll-sent old new t st g =
@@ -324,7 +326,7 @@ module _ {D : Type 0} (laws : Laws) (shown : D → Shown) (follows : Goes D) (li
       let v = t.step.adapter.debuggee in
       let can : CanMake (polls s) made = can_make follows (polls s) old.adapter.debuggee v made t.step.session.carried in
       let well : GoesWell s [] None made = laws.goes_well.poll s made can in
-      subst (λ (x : World D). Sent x) (sym (written follows old new old.up (polls s) t.step.adapter t.step.session t.step.is)) (made-sent old old.up [] None made v g well tt g.up g.own_up)
+      subst (λ (x : World D). Sent x) (sym (written follows old new old.up (polls s) t.step.adapter t.step.session t.step.is)) (made-sent old old.up [] None made v g well (laws.goes_well.by_name.poll s made can) tt g.up g.own_up)
 
   emit-sent : (name : List ℕ) (body : Option Data) (old new : World D) → Emits follows name body old new → Stands limits old → Sent old → Sent new
   emit-sent name body old new t st g =
@@ -333,7 +335,7 @@ module _ {D : Type 0} (laws : Laws) (shown : D → Shown) (follows : Goes D) (li
       let v = t.step.adapter.debuggee in
       let can : CanMake (emits name body s) made = can_make follows (emits name body s) old.adapter.debuggee v made t.step.session.carried in
       let well : GoesWell s [] None made = laws.goes_well.emit name body s made can in
-      subst (λ (x : World D). Sent x) (sym (written follows old new old.up (emits name body s) t.step.adapter t.step.session t.step.is)) (made-sent old old.up [] None made v g well tt g.up g.own_up)
+      subst (λ (x : World D). Sent x) (sym (written follows old new old.up (emits name body s) t.step.adapter t.step.session t.step.is)) (made-sent old old.up [] None made v g well (laws.goes_well.by_name.emit name body s made can) tt g.up g.own_up)
 
   down-sent : (old new : World D) → ComesDown old new → Stands limits old → Sent old → Sent new
   down-sent old new t st g =

@@ -8,7 +8,7 @@ use Rattle.dap_ends.specs.AdapterModel as model
 use Rattle.dap_ends.specs.Standing.{AllLaunch}
 use Rattle.dap_ends.proofs.Counts.{names-same}
 use Rattle.dap_call.specs.Terminal.{run_in_terminal}
-use Rattle.dap_tables.specs.Outstanding.{Kept, parked_ones, unparked_ones}
+use Rattle.dap_tables.specs.Outstanding.{Kept, entry_with, parked_ones, unparked_ones}
 use Rattle.dap_outbox.specs.Waiting.{starting_ones}
 use Rattle.dap_debuggee.specs.Shown.{Reply, refused}
 use Rattle.dap_plan.specs.declared.fault.AdapterFault.{AdapterFault}
@@ -19,7 +19,7 @@ use Rattle.dap_plan.specs.Handling.{answer_parked, by_reply, start_phase, by_rep
 use Rattle.dap_plan.specs.Laws.{CanMake}
 use Rattle.dap_plan.specs.Plan.{Made, Plan, messages_due, plan_within_numbers}
 use Rattle.dap_plan.specs.Session.{Session, is_asked}
-use Rattle.dap_plan.specs.Taking.{after_terminal, after_late_terminal, plan_of_response, takes_response}
+use Rattle.dap_plan.specs.Taking.{after_terminal, after_late_terminal, plan_of_response, takes_response, takes_response_of, takes_terminal_response}
 use Rattle.dap_world.specs.Projection.{adapter_model_phase, all_kept, adapter_model_of}
 use Rattle.dap_world.proofs.Answered.{AllHarmless, AllGiveNone, none-each, none-parked-reply, is_done, told-parked, starts-phase, harmless-after_park, same-adapter-model}
 use Rattle.dap_world.proofs.KeptSeen.{starting-parked, others-unparked, all_told, each-succeeded, parked-seen, unparked-seen}
@@ -129,8 +129,12 @@ response-if true true q ok name s plan made x y l e can =
       ends = ends-in s.phase s ok made l (subst (λ (p : Plan). CanMake p made) same can);
     }
 
-pub response-seen : (q : ℕ) (ok : Bool) (name : List ℕ) (s : Session) (plan : Plan) (made : Made) → AllLaunch (parked_of (all_kept s.kept)) → takes_response q ok name s ≡ Ok plan → CanMake plan made → IsAnswered s q ok name made
-response-seen q ok name s plan made l e can = response-if (is_asked q s.asked) (bytes_eq name run_in_terminal) q ok name s plan made refl refl l e can
+-- nobody asks by a name of their own
+as-terminal : (q : ℕ) (ok : Bool) (name : List ℕ) (s : Session) → s.own ≡ [] → takes_response q ok name s ≡ takes_terminal_response q ok name s
+as-terminal q ok name s n = ap (λ (ks : List Kept). takes_response_of (entry_with q ks) q ok name s) n
+
+pub response-seen : (q : ℕ) (ok : Bool) (name : List ℕ) (s : Session) (plan : Plan) (made : Made) → s.own ≡ [] → AllLaunch (parked_of (all_kept s.kept)) → takes_response q ok name s ≡ Ok plan → CanMake plan made → IsAnswered s q ok name made
+response-seen q ok name s plan made n l e can = response-if (is_asked q s.asked) (bytes_eq name run_in_terminal) q ok name s plan made refl refl l (sym (as-terminal q ok name s n) ∙ e) can
 
 -- ---- faults
 
@@ -145,5 +149,5 @@ fault-if true false q ok s f x y e = cc
 fault-if false b q ok s f x y e = cc
 
 -- a response to the own request is refused only where too few numbers are left
-pub response-fault : (q : ℕ) (ok : Bool) (name : List ℕ) (s : Session) (f : AdapterFault) → is_asked q s.asked ≡ true → bytes_eq name run_in_terminal ≡ true → takes_response q ok name s ≡ Err f → f ≡ SeqExhausted
-response-fault q ok name s f x y e = fault-if (is_asked q s.asked) (bytes_eq name run_in_terminal) q ok s f x y e
+pub response-fault : (q : ℕ) (ok : Bool) (name : List ℕ) (s : Session) (f : AdapterFault) → s.own ≡ [] → is_asked q s.asked ≡ true → bytes_eq name run_in_terminal ≡ true → takes_response q ok name s ≡ Err f → f ≡ SeqExhausted
+response-fault q ok name s f n x y e = fault-if (is_asked q s.asked) (bytes_eq name run_in_terminal) q ok s f x y (sym (as-terminal q ok name s n) ∙ e)

@@ -158,5 +158,5 @@ module _ {D : Type 0} (shown : D → Shown) (follows : Goes D) (answers : Answer
 
   pub schedule-still : Laws → EachStepKeepsState → (limits : Settings) (debuggee : D) (w : World D) → AreInRange limits → Schedule shown lasting limits debuggee w → StandsStill shown limits debuggee w
   unfolding fresh-stands
-  schedule-still laws states limits debuggee _ r starts = record { stands = fresh-stands laws limits debuggee; keeps = record { refs = start-holds limits.requests limits.references; owns = owns-start }; state = refl }
+  schedule-still laws states limits debuggee _ r starts = record { stands = fresh-stands laws limits debuggee r; keeps = record { refs = start-holds limits.requests limits.references; owns = owns-start }; state = refl }
   schedule-still laws states limits debuggee _ r (goes v w s t) = step-still laws states limits debuggee v w r t (schedule-still laws states limits debuggee v r s)

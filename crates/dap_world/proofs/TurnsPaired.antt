@@ -30,7 +30,7 @@ use Rattle.dap_plan.specs.Answering.{GoesWell}
 use Rattle.dap_plan.specs.GivenLaws.{given_by, AllGiveLive}
 use Rattle.dap_plan.specs.Handling.{is_launch, names_terminal, wants_terminal, parked_wants_terminal}
 use Rattle.dap_plan.specs.Plan.{Made}
-use Rattle.dap_outbox.specs.Draft.{Draft, reply, emit, ask, message_of, numbered_messages, requests_in}
+use Rattle.dap_outbox.specs.Draft.{Draft, reply, emit, ask, ask_named, message_of, numbered_messages, requests_in}
 use Rattle.dap_plan.specs.Session.{Session, own_requests}
 use Rattle.dap_outbox.specs.Draft.{own_request}
 use Rattle.dap_query.specs.declared.options.Options.{Options}
@@ -195,6 +195,7 @@ one-requested used [] h = let e : used + 1 ≡ used + 0 + 1 = omega arith in ap 
 one-requested used (reply r answer ∷ ds) h = let e : used + 1 + length ds + 1 ≡ used + length (reply r answer ∷ ds) + 1 = omega arith in one-requested (used + 1) ds h.1 ∙ ap (λ (n : ℕ). own_request n ∷ []) e
 one-requested used (emit event ∷ ds) h = let e : used + 1 + length ds + 1 ≡ used + length (emit event ∷ ds) + 1 = omega arith in one-requested (used + 1) ds h.1 ∙ ap (λ (n : ℕ). own_request n ∷ []) e
 one-requested used (ask ∷ ds) h = absurd h.0
+one-requested used (ask_named command arguments ∷ ds) h = absurd h.0
 
 own-asking : (s : Session) (made : Made) (before : List Draft) → GoesWell s [] None made → AllHarmless before → made.drafts ≡ before ++ ask ∷ [] → own_seen (own_requests made.after.asked) ≡ own_seen (own_requests s.asked) ++ terminal_ask (s.used + length before + 1) ∷ []
 own-asking s made before g h e =

@@ -1,4 +1,4 @@
-//! Whoever holds an adapter, and answers commands that were opened.
+//! Whoever holds an adapter: answers commands that were opened, and asks the client by requests of any name.
 //!
 //! | a line of a row | says |
 //! |---|---|
@@ -10,11 +10,18 @@
 //! | `success N BODY` | the request with this number is answered so, with this body or none |
 //! | `failure N MESSAGE BODY` | it is answered with this failure, and this body or none |
 //! | `echo N` | it succeeds with the arguments that it has |
-//! | `! REFUSAL` | why the last of these was refused |
+//! | `ask N NAME BODY` | the client is asked by a request of this name, with these arguments or none: it has this number, or is refused |
+//! | `long N NAME BYTES` | the same with a text of so many bytes as its arguments |
+//! | `waits N` | so many of these wait for a response |
+//! | `! REFUSAL` | why the last of these was refused, or the fault by which the last message closed the adapter |
 //! | `closed` | bytes come that are no frame: the adapter is closed |
 
+use crate::emitting::text_of;
 use crate::opening::offer_of;
-use dap_adapter::{Adapter, Outcome, RespondFault, is_plain_outcome, offers_fit};
+use dap_adapter::{
+    Adapter, AdapterFault, AskFault, Outcome, RespondFault, is_plain_outcome, offers_fit,
+};
+use dap_envelope::is_plain_tree;
 use dap_frame::Limits;
 use dap_json::{Text, Tree, parse};
 use dap_replay::Recorded;
@@ -41,6 +48,26 @@ fn name_of(fault: RespondFault) -> &'static str {
         RespondFault::TooLarge => "TooLarge",
         RespondFault::SeqExhausted => "SeqExhausted",
         RespondFault::OutOfMemory => "OutOfMemory",
+    }
+}
+
+fn name_of_refusal(fault: AskFault) -> &'static str {
+    match fault {
+        AskFault::Closed => "Closed",
+        AskFault::WrongPhase => "WrongPhase",
+        AskFault::BadName => "BadName",
+        AskFault::Full => "Full",
+        AskFault::TooLarge => "TooLarge",
+        AskFault::SeqExhausted => "SeqExhausted",
+        AskFault::OutOfMemory => "OutOfMemory",
+    }
+}
+
+fn name_of_fault(fault: AdapterFault) -> &'static str {
+    match fault {
+        AdapterFault::Unmatched { .. } => "Unmatched",
+        AdapterFault::CommandMismatch { .. } => "CommandMismatch",
+        _ => "another fault",
     }
 }
 
@@ -158,8 +185,13 @@ impl Holder {
 
     fn hears(&mut self, alloc: Global, body: &str) -> bool {
         let mut out = Vec::new(alloc);
-        let answered = self.adapter.answer_body(alloc, body.as_bytes(), &mut out);
-        answered.is_ok() && self.given.add(&out).is_ok()
+        match self.adapter.answer_body(alloc, body.as_bytes(), &mut out) {
+            Ok(_) => self.given.add(&out).is_ok(),
+            Err(fault) => {
+                self.refusal = name_of_fault(fault);
+                true
+            }
+        }
     }
 
     fn says(&mut self, alloc: Global, text: &str) -> bool {
@@ -217,6 +249,46 @@ impl Holder {
         }
     }
 
+    /// Asks: whether it has this number, or is refused.
+    fn asks(&mut self, alloc: Global, number: &str, name: &str, arguments: Option<Tree>) -> bool {
+        let Ok(wanted) = number.parse::<u64>() else {
+            return false;
+        };
+        if !is_plain_tree(&arguments) {
+            return false;
+        }
+        let mut out = Vec::new(alloc);
+        match self.adapter.ask(alloc, name, arguments, &mut out) {
+            Ok(seq) => seq == wanted && self.given.add(&out).is_ok(),
+            Err(fault) => {
+                self.refusal = name_of_refusal(fault);
+                true
+            }
+        }
+    }
+
+    fn asks_with(&mut self, alloc: Global, words: &str) -> bool {
+        let (number, words) = parts(words);
+        let (name, body) = parts(words);
+        self.asks(alloc, number, name, body_in(alloc, body))
+    }
+
+    fn asks_at_length(&mut self, alloc: Global, words: &str) -> bool {
+        let (number, words) = parts(words);
+        let (name, bytes) = parts(words);
+        let Ok(bytes) = bytes.parse::<usize>() else {
+            return false;
+        };
+        match text_of(alloc, bytes) {
+            Ok(text) => self.asks(alloc, number, name, body_in(alloc, text.as_str())),
+            Err(_) => false,
+        }
+    }
+
+    fn waits_for(&self, number: &str) -> bool {
+        number.parse::<usize>() == Ok(self.adapter.asked_by_name())
+    }
+
     fn is_refused(&mut self, refusal: &str) -> bool {
         if self.refusal != refusal {
             return false;
@@ -232,6 +304,8 @@ impl Holder {
             "success" => self.succeeds(alloc, rest),
             "failure" => self.fails(alloc, rest),
             "echo" => self.echoes(alloc, rest),
+            "ask" => self.asks_with(alloc, rest),
+            "long" => self.asks_at_length(alloc, rest),
             "closed" => self.adapter.take(alloc, b"no header\r\n\r\n").is_err(),
             _ => false,
         }
@@ -245,6 +319,7 @@ impl Holder {
             "<" => self.says(alloc, rest),
             "!" => self.is_refused(rest),
             "lent" => self.is_settled() && self.lends(alloc, rest),
+            "waits" => self.is_settled() && self.waits_for(rest),
             _ => self.is_settled() && self.calls(alloc, word, rest),
         }
     }

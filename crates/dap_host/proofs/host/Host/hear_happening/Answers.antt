@@ -1,7 +1,7 @@
 use Rattle.std.proofs.Common.{Ok, refl, subst, ap, ◌∙◌, ◌++◌}
 use Rattle.std.proofs.lemmas.Result.{on_ok_weaker}
 use Rattle.dap_tables.specs.References.{target_of}
-use Rattle.dap_host.specs.Hearing.{HostState, EmitsOrRefuses, AnswersOrRefuses, with_ahead, not_heard, noted, emitted, lent_answered, asked, unread}
+use Rattle.dap_host.specs.Hearing.{HostState, EmitsOrRefuses, AnswersOrRefuses, AsksOrRefuses, with_ahead, not_heard, noted, emitted, lent_answered, client_asked, asked, unread}
 use Rattle.dap_host.proofs.GoingLemmas.{going_ahead}
 use Rattle.dap_line.specs.Told.{said_of, Says, ahead_with}
 use Rattle.dap_line.specs.Written.{refusal_line, target_line}
@@ -43,3 +43,8 @@ pub returns-in-Ok-Answer-clause-hears : goal.returns-in-Ok-Answer-clause-hears
 returns-in-Ok-Answer-clause-hears c =
     on_ok_weaker c.respond.result (λ a. lent_answered c.in-Ok-Answer.seq c.in-Ok-Answer.outcome (c.in-Ok-Answer.ensures.tells ∙ ap (λ (z : Said). Ok z) c.in-Ok-Answer.field-0-is)
     (subst (λ (z : HostState). AnswersOrRefuses z c.in-Ok-Answer.seq c.in-Ok-Answer.outcome c.args.out.now.items c.respond.new.out.items c.respond.new.self) c.self.view_is (rw (c.in-Ok-Answer.seq-is, c.in-Ok-Answer.outcome-is) at a))) c.respond.ensures.answers
+
+pub returns-in-Ok-Ask-clause-hears : goal.returns-in-Ok-Ask-clause-hears
+returns-in-Ok-Ask-clause-hears c =
+    on_ok_weaker c.ask.result (λ a. client_asked c.in-Ok-Ask.command c.in-Ok-Ask.arguments (c.in-Ok-Ask.ensures.tells ∙ ap (λ (z : Said). Ok z) c.in-Ok-Ask.field-0-is)
+    (subst (λ (z : HostState). AsksOrRefuses z c.in-Ok-Ask.command c.in-Ok-Ask.arguments c.args.out.now.items c.ask.new.out.items c.ask.new.self) c.self.view_is (rw c.in-Ok-Ask.command-is at a))) c.ask.ensures.asks
