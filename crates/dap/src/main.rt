@@ -77,7 +77,7 @@ fn main(rt: HostRuntime) -> ExitCode {
 }
 
 /// How much of the stack the deepest work takes, in bytes.
-const STACK: usize = 393216;
+const STACK: usize = 589824;
 
 #[inline(never)]
 fn fill(room: &mut [u8], byte: u8) {

@@ -22,7 +22,7 @@ use Rattle.dap_plan.specs.Emitting.{emit_faults, emits, first_emit_fault}
 use Rattle.serde_json.specs.Data.{Data}
 use Rattle.std.specs.Prelude.{is_some}
 use Rattle.dap_plan.specs.SessionState.{SessionState, AppendsSome, Carries, HasTurned}
-use Rattle.dap_plan.specs.Session.{Session, IsOrderly, IsOwnInOrder, opened_session}
+use Rattle.dap_plan.specs.Session.{Session, IsOrderly, OwnStandApart, opened_session}
 use Rattle.dap_plan.specs.Within.{IsWithin, EachStepStaysWithin}
 use Rattle.dap_message.specs.declared.outcome.Outcome.{Outcome}
 use Rattle.dap_plan.specs.Responding.{IsLent, first_respond_fault, respond_faults, responds}
@@ -94,13 +94,13 @@ handled grow ranges laws within shown follows old new bytes from to a b i fault 
       step = stepped grow ranges laws follows t.plan old new bytes from to a b i fault limits t.carries
           (λ made h can w f. laws.turn (shown old.debuggee) old.session t.plan made h (orderly old.session w) due can f)
           (λ made can is w. within.turn (shown old.debuggee) old.session t.plan made w due can)
-          (λ made can. none-in-range made.drafts (laws.by_name.turn (shown old.debuggee) old.session t.plan made due can));
+          (λ made can. none-in-range made.drafts (laws.only_ask.turn (shown old.debuggee) old.session t.plan made due can));
     }
 
 pub opened-follows : HistoriesGrow → (limits : Settings) (offers : Offer) → Follows (opened_session limits offers) []
 opened-follows laws limits offers = record { kept = refl; answers = laws.answers_none Came; accepted = laws.answers_none Went; asked = (refl, refl); references = refl; used = refl; numbered = tt }
 
-own-opened : (limits : Settings) (offers : Offer) → 1 ≤ limits.requests → IsOwnInOrder (opened_session limits offers)
+own-opened : (limits : Settings) (offers : Offer) → 1 ≤ limits.requests → OwnStandApart (opened_session limits offers)
 own-opened limits offers h = record { distinct = tt; apart = λ seq e. refl; given = tt; asked_given = λ seq e. absurd cc; places = omega arith }
 
 pub opened-within : (limits : Settings) (offers : Offer) → 1 ≤ limits.requests → IsWithin (opened_session limits offers)
@@ -116,7 +116,7 @@ sees grow ranges laws within follows old new bytes from to a b i fault limits c 
       step = stepped grow ranges laws follows (polls old.session) old new bytes from to a b i fault limits (subst (λ (x : SessionState _). Carries follows (polls x.session) from to bytes) a c)
           (λ made h can in_range f. laws.poll old.session made h can f)
           (λ made can is in_range. within.poll old.session made in_range can (subst (λ (x : Session). x.used ≤ old.session.limits.seq) is w))
-          (λ made can. none-in-range made.drafts (laws.by_name.poll old.session made can));
+          (λ made can. none-in-range made.drafts (laws.only_ask.poll old.session made can));
       within = w;
     }
 
@@ -140,7 +140,7 @@ emits-event grow ranges laws within follows name body old new bytes from to a b 
       step = stepped grow ranges laws follows (emits name body old.session) old new bytes from to a b i (fault ∙ is-open old.fault name body old.session free) limits (subst (λ (x : SessionState _). Carries follows (emits name body x.session) from to bytes) a c)
           (λ made h can in_range f. laws.emit name body old.session made h can f)
           (λ made can is in_range. within.emit name body old.session made in_range can (subst (λ (x : Session). x.used ≤ old.session.limits.seq) is w))
-          (λ made can. none-in-range made.drafts (laws.by_name.emit name body old.session made can));
+          (λ made can. none-in-range made.drafts (laws.only_ask.emit name body old.session made can));
       within = w;
     }
 
@@ -181,7 +181,7 @@ responds-to grow ranges laws within follows seq o old new bytes from to a b i fa
       step = stepped grow ranges laws follows (responds c.entry o old.session) old new bytes from to a b i (fault ∙ is-open-to old.fault seq o old.session free) limits (subst (λ (x : SessionState _). Carries follows (responds c.entry o x.session) from to bytes) a c.carries)
           (λ made h can in_range f. laws.respond c.entry o old.session made h (orderly old.session in_range) lent can f)
           (λ made can is in_range. within.respond c.entry o old.session made in_range lent can (subst (λ (x : Session). x.used ≤ old.session.limits.seq) is w))
-          (λ made can. none-in-range made.drafts (laws.by_name.respond c.entry o old.session made can));
+          (λ made can. none-in-range made.drafts (laws.only_ask.respond c.entry o old.session made can));
       within = w;
     }
 

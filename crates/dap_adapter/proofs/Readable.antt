@@ -15,7 +15,7 @@ use Rattle.dap_envelope.specs.declared.message.Kind.{Kind}
 use Rattle.dap_envelope.specs.declared.message.Kind.TheVariants.{Request, Response, Event, Other}
 use Rattle.dap_tables.specs.declared.entry.Entry.{Entry as Kept}
 use Rattle.dap_message.specs.declared.outcome.Outcome.TheVariants.{Success, Failure}
-use Rattle.dap_outbox.specs.InRange.{IsRequestInRange, AnswersInRange}
+use Rattle.dap_outbox.specs.InRange.{IsRequestInRange, AreDraftsInRange}
 use Rattle.dap_plan.specs.Laws.{AskNoneByName}
 use Rattle.dap_plan.specs.Plan.{Made, references_end_if, entries_of}
 use Rattle.dap_outbox.specs.Draft.{Answer, success, failure, explained, came_out, Draft, reply, emit, ask, ask_named, message_of, names_of, numbered_messages, outs}
@@ -118,7 +118,7 @@ none-in-range (emit event ∷ ds) n = none-in-range ds n
 none-in-range (ask ∷ ds) n = none-in-range ds n
 none-in-range (ask_named command arguments ∷ ds) n = absurd n
 
-drafts-in-range : (all : List Entry) → AreMessagesInRange (ins_of all) → Answers Came all → (before : List Entry) (used : ℕ) (ds : List Draft) → NamesInRange ds → before ++ outs used ds ≡ all → AnswersInRange ds
+drafts-in-range : (all : List Entry) → AreMessagesInRange (ins_of all) → Answers Came all → (before : List Entry) (used : ℕ) (ds : List Draft) → NamesInRange ds → before ++ outs used ds ≡ all → AreDraftsInRange ds
 drafts-in-range all came answers before used [] n is = tt
 drafts-in-range all came answers before used (reply r answer ∷ ds) n is =
     let e : Entry = Out (message_of (used + 1) (reply r answer)) (names_of (reply r answer)) in
@@ -141,13 +141,13 @@ parts h came drops entries = append_assoc h (came ++ drops) entries ∙ ap (λ (
 
 -- ---- a step
 
-made-in-range : {D : Type 0} → ReadIsInRange → (e : AdapterState D) (s : List ℕ) (h came : List Entry) (used : ℕ) (m : Made) → NamesInRange m.drafts → StandsFor e s (h ++ (came ++ entries_of used m)) → AnswersInRange m.drafts
+made-in-range : {D : Type 0} → ReadIsInRange → (e : AdapterState D) (s : List ℕ) (h came : List Entry) (used : ℕ) (m : Made) → NamesInRange m.drafts → StandsFor e s (h ++ (came ++ entries_of used m)) → AreDraftsInRange m.drafts
 made-in-range law e s h came used m n st =
     drafts-in-range (h ++ (came ++ entries_of used m)) (read-in-range law st.received.bodies (ins_of (h ++ (came ++ entries_of used m))) st.received.read) st.session.answers
     (h ++ (came ++ references_end_if m.drops)) used m.drafts n (parts h came (references_end_if m.drops) (outs used m.drafts))
 
 -- an adapter that stands for some history after the step wrote messages in range
 pub step-reads : {D : Type 0} → ReadIsInRange → (old new : AdapterState D) (used : List ℕ) (came : List Entry) (m : Made) → NamesInRange m.drafts → GoesOn old new used (came ++ entries_of old.session.used m)
-    → (AnswersInRange m.drafts → AllReadBack old.session.limits.body (numbered_messages old.session.used m.drafts))
+    → (AreDraftsInRange m.drafts → AllReadBack old.session.limits.body (numbered_messages old.session.used m.drafts))
     → (s : List ℕ) (h : List Entry) → StandsFor old s h → AllReadBack old.session.limits.body (numbered_messages old.session.used m.drafts)
 step-reads law old new used came m n goes reads s h st = reads (made-in-range law new (s ++ used) h came old.session.used m n (goes s h st))

@@ -97,6 +97,6 @@ received grow ranges laws within follows old new from to piece used bytes (Some 
         bytes_are = has.carries.tells.bytes_are;
         goes_on = goes;
         went = λ h. grow.outs_append h (In m ∷ entries_of old.session.used step.made) ∙ ap (λ (ms : List Message). outs_of h ++ ms) (laws.all_go old.session.used step.made);
-        reads_back = step-reads ranges old new (take used piece) (In m ∷ []) step.made (none-in-range step.made.drafts (laws.by_name.take old.session m has.plan step.made has.is can)) goes has.carries.tells.reads_back;
+        reads_back = step-reads ranges old new (take used piece) (In m ∷ []) step.made (none-in-range step.made.drafts (laws.only_ask.take old.session m has.plan step.made has.is can)) goes has.carries.tells.reads_back;
       };
     }

@@ -160,7 +160,7 @@ impl<D: Debuggee + Drop> Adapter<D> {
     /// How many requests that were asked by [`ask`](Adapter::ask) are not answered.
     pub fn asked_by_name(&self) -> usize
         ensures own { result ≡ length self.now.session.own }
-        ensures bound { result ≤ self.now.session.limits.requests }
+        ensures bound { result < self.now.session.limits.requests }
     {
         self.session.asked_by_name()
     }
@@ -193,13 +193,14 @@ impl<D: Debuggee + Drop> Adapter<D> {
     /// Uses the bytes of a piece up to the end of one frame at most, and delivers the message that becomes whole.
     ///
     /// A request is kept, or answered at once: a `cancel`, with what it cancels, and `busy` where as many requests are kept
-    /// as may be. A response to the own request for a terminal starts the debuggee, or fails the `launch` that waits for it.
-    /// Where none waits any more, it has no effect, as any other message.
+    /// as may be. A response to the request for a terminal starts the debuggee, or fails the `launch` that waits for it. Where
+    /// none waits any more, and to a request of [`ask`](Adapter::ask), it ends that request's waiting, and nothing else. Any
+    /// other message has no effect.
     ///
     /// # Errors
     /// `Frame` and `Body` where the framing or a body is refused, at the offset of the refused frame; `Ended` for a request
     /// after `disconnect` was answered; `RepeatedSeq` for a request with the number of one that is kept; `Unmatched` for a
-    /// response that answers no own request, or one that is answered; `CommandMismatch` for one to another command;
+    /// response that answers no request of the adapter, or one that is answered; `CommandMismatch` for one to another command;
     /// `SeqExhausted` where more answers are due at once than own numbers are left; `OutOfMemory` where memory is refused once
     /// a body is whole: a piece that makes no frame whole takes none. The debuggee is as it was, unless memory is refused to a
     /// response that lets it start.
@@ -475,7 +476,8 @@ impl<D: Debuggee + Drop> Adapter<D> {
     /// is handed out with the other messages, as by [`take`](Adapter::take), and the request waits no more. A response with
     /// another command closes the adapter (`CommandMismatch`), and so does a second one (`Unmatched`). Requests may be answered in
     /// any order, and never have to be. Whether the client knows the request is for the caller to see in what `initialize` says.
-    /// The debuggee is asked nothing, and all else stays as it is. A refused call changes nothing, and the adapter goes on.
+    /// The debuggee is asked nothing, and all else stays as it is. A refused call changes nothing but that `arguments` are used up,
+    /// and the adapter goes on.
     ///
     /// # Errors
     /// The first of these that holds: `Closed` after a fault; `WrongPhase` before `initialize` is answered and after `disconnect`

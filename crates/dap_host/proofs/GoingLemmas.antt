@@ -1,5 +1,5 @@
 -- What holds of an open host after a step of its adapter.
-use Rattle.std.proofs.Common.{◌≡◌, ℕ, ◌≤◌, List, [], ◌∷◌, ◌++◌, length, Bool, true, refl, sym, ap, ◌∙◌, subst, Option, Some, None, Result, Ok, Err}
+use Rattle.std.proofs.Common.{◌≡◌, ℕ, ◌≤◌, List, [], ◌∷◌, ◌++◌, length, Bool, refl, sym, ap, ◌∙◌, subst, Option, Some, None, Result, Ok, Err}
 use Rattle.std.specs.Prelude.{IfErr, IfOk}
 use Rattle.dap_adapter.specs.AdapterState.{AdapterState}
 use Rattle.dap_adapter.specs.Bodies.{IsBetween, BodiesComeOneByOne}
@@ -12,7 +12,6 @@ use Rattle.dap_adapter.specs.Parts.{AnswersPiece, StopsAfter}
 use Rattle.dap_adapter.specs.Run.{to_take, to_poll}
 use Rattle.dap_adapter.specs.StandsFor.{StandsFor}
 use Rattle.dap_decision.specs.declared.phase.Phase.{Phase}
-use Rattle.dap_decision.specs.declared.phase.Phase.TheVariants.{Fresh, Ready, Configured, Parked, Asked, Running, Stopped, Exited, Ended}
 use Rattle.dap_frame.specs.Settings.{Settings, AreInRange}
 use Rattle.dap_frame.specs.Written.{frame_of}
 use Rattle.dap_live.specs.LiveLaws.{FollowsLive}
@@ -21,7 +20,6 @@ use Rattle.dap_live.specs.MailState.{MailState, nothing_ahead, no_mail, with_com
 use Rattle.dap_envelope.specs.declared.message.Message.{Message}
 use Rattle.dap_outbox.specs.Draft.{bytes_of}
 use Rattle.dap_recording.specs.declared.recording.RecordedSource.{RecordedSource}
-use Rattle.dap_plan.specs.Polling.{has_debuggee}
 use Rattle.dap_command.specs.declared.offer.Offer.{Offer}
 use Rattle.dap_plan.specs.Session.{Session, opened_session}
 use Rattle.dap_plan.specs.declared.fault.AdapterFault.{AdapterFault}

@@ -1,6 +1,5 @@
 -- What an adapter wrote is listed as a line for each message.
-use Rattle.std.proofs.Common.{◌≡◌, ℕ, List, [], ◌∷◌, ◌++◌, length, refl, sym, ap, ◌∙◌, append_assoc, append-nil, arith}
-use Rattle.std.specs.Prelude.{Option, None, MatchOption}
+use Rattle.std.proofs.Common.{◌≡◌, ℕ, List, [], ◌∷◌, ◌++◌, refl, sym, ap, ◌∙◌, append_assoc, append-nil}
 use Rattle.dap_frame.specs.Written.{frame_of}
 use Rattle.dap_envelope.specs.Canon.{canon}
 use Rattle.dap_envelope.specs.declared.message.Message.{Message}

@@ -1,9 +1,9 @@
 -- Worked examples of the parts in which it is told what a host says, each shown by computation.
-use Rattle.std.proofs.Common.{◌≡◌, List, [], ◌∷◌, ◌++◌, codes, replicate, true, pos, refl}
+use Rattle.std.proofs.Common.{◌≡◌, List, [], ◌∷◌, ◌++◌, codes, replicate, pos, refl}
 use Rattle.dap_json.specs.declared.more.Member.{Member}
 use Rattle.dap_debuggee.specs.declared.answers.Category.TheVariants.{Console, Stderr, Other}
 use Rattle.dap_live.specs.declared.mail.Coming.TheVariants.{Output, Continued}
-use Rattle.dap_host.specs.Parts.{texts_told, outputs, parts_of}
+use Rattle.dap_host.specs.Parts.{texts_told, parts_of}
 
 texts : (texts_told [] ≡ [] ∷ []) × (texts_told (codes "a") ≡ codes "a" ∷ []) × (texts_told (replicate 130 97) ≡ replicate 128 97 ∷ replicate 2 97 ∷ [])
 texts = (refl, refl, refl)

@@ -1,6 +1,6 @@
 -- What a host's file says that its adapter offers, and which commands the host answers.
 -- Specification, "Capabilities". That they stand at `offers` and `open` beside the sources is this profile's choice.
-use Rattle.std.specs.Prelude.{◌≡◌, List, [], ℕ, codes, Bool, false, ⊤, Option, Some, None, unwrap_or, Result, Ok, Err}
+use Rattle.std.specs.Prelude.{◌≡◌, List, [], ℕ, codes, false, ⊤, Option, Some, None, unwrap_or, Result, Ok, Err}
 use Rattle.serde_json.specs.Data.{Data, object, no_members}
 use Rattle.dap_json.specs.Field.{tree_at}
 use Rattle.dap_json.specs.Read.{json_of}

@@ -20,5 +20,5 @@ IsDraftInRange ask = Unit {0}
 IsDraftInRange (ask_named command arguments) = length command ≤ max_command
 
 -- each response among them answers a request in range, and each request has a name in range
-abbrev pub AnswersInRange : List Draft → Type 0
-AnswersInRange ds = AllByRecursion IsDraftInRange ds
+abbrev pub AreDraftsInRange : List Draft → Type 0
+AreDraftsInRange ds = AllByRecursion IsDraftInRange ds

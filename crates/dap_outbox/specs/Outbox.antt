@@ -20,7 +20,7 @@ use Rattle.dap_outbox.specs.declared.answer.Fixed.{Fixed}
 use Rattle.dap_outbox.specs.declared.answer.Fixed.TheVariants.{Continue}
 use Rattle.dap_outbox.specs.declared.answer.Event.{Event}
 use Rattle.dap_outbox.specs.declared.answer.Event.TheVariants.{Initialized, Output, Stopped, Continued, Exited, Terminated}
-use Rattle.dap_outbox.specs.InRange.{AnswersInRange, IsRequestInRange}
+use Rattle.dap_outbox.specs.InRange.{AreDraftsInRange, IsRequestInRange}
 use Rattle.dap_outbox.specs.Draft.{Answer as AnswerWord, success, failure, explained, came_out, Draft, reply, emit, ask_named, numbered_messages, bytes_of}
 
 -- what the buffer had before, the bytes of the messages behind it, and the own numbers that are left after them
@@ -56,13 +56,13 @@ pub record IsReady (outbox : OutboxState) (numbers : Numbers) : Type 0 where
   pub none : outbox.bytes ≡ []
   pub numbers_are : outbox.numbers ≡ numbers
 
--- the outbox holds just these messages, numbered after the first ones that were used; a client whose bodies have at most so many bytes reads each
+-- the outbox holds just these messages, numbered after the first ones that were used; a client whose bodies have at most so many bytes reads each, where the requests that they answer, and the names that they ask by, are in range
 pub record Holds (outbox : OutboxState) (limit used : ℕ) (ds : List Draft) : Type 0 where
   pub bytes : outbox.bytes ≡ bytes_of (numbered_messages used ds)
   pub count : outbox.numbers.used ≡ used + length ds
   pub in_range : outbox.numbers.last ≤ max_seq
   pub room : max_fixed ≤ limit
-  pub reads_back : AnswersInRange ds → AllReadBack limit (numbered_messages used ds)
+  pub reads_back : AreDraftsInRange ds → AllReadBack limit (numbered_messages used ds)
 
 -- one message more, which a client reads whose bodies may have so many bytes
 pub record AppendsDraft (most : ℕ) (old new : OutboxState) (d : Draft) : Type 0 where

@@ -7,26 +7,24 @@ use Rattle.std.proofs.lemmas.Bool.Decides.{nat_tests}
 use Rattle.std.proofs.lemmas.List.{append-nil}
 use Rattle.std.proofs.lemmas.List.Elements.{filter-append}
 use Rattle.serde_json.specs.Data.{Data}
-use Rattle.dap_history.specs.Answers.{AnswersOne}
-use Rattle.dap_history.specs.History.{Asked, Answered, without_answered}
+use Rattle.dap_history.specs.History.{Asked, without_answered}
 use Rattle.dap_history.specs.Requests.{asked_of, asks}
 use Rattle.dap_outbox.specs.Draft.{ask_named, plain_success}
-use Rattle.dap_tables.specs.Outstanding.{Kept, contains_seq, entry_with, kept_unparked, without, HasDistinctSeqs}
+use Rattle.dap_tables.specs.Outstanding.{Kept, contains_seq, entry_with, kept_unparked, without}
 use Rattle.dap_tables.specs.declared.entry.Entry.{Entry}
 use Rattle.dap_plan.specs.Answering.{GoesWell, all_own, with_seq}
-use Rattle.dap_plan.specs.Asking.{after_asking_named, asked_as, asks_named, may_ask}
+use Rattle.dap_plan.specs.Asking.{after_asking_named, request_asked, asks_named, may_ask}
 use Rattle.dap_plan.specs.GivenLaws.{AllGiveLive}
 use Rattle.dap_plan.specs.Laws.{CanMake}
-use Rattle.dap_plan.specs.Plan.{Made, entries_of}
-use Rattle.dap_plan.specs.References.{references_after}
-use Rattle.dap_plan.specs.Session.{Session, own_requests, is_asked, IsOrderly, IsOwnInOrder}
+use Rattle.dap_plan.specs.Plan.{Made}
+use Rattle.dap_plan.specs.Session.{Session, own_requests, is_asked, IsOrderly, OwnStandApart}
 use Rattle.dap_plan.specs.Taking.{after_own_response}
 use Rattle.dap_plan.specs.Within.{IsWithin}
 use Rattle.dap_plan.proofs.Kept.{IsKept, asks-append, both-false, contains-append, distinct-filter, distinct-more, contains-filter, length-filtered, all-open, walked-ask_named, walked-kept, walked-none}
 use Rattle.dap_plan.proofs.Moves.{Moves, is-plain, moves-plain}
 use Rattle.dap_plan.proofs.Own.{KeepsOwn, given-more, not-given}
 use Rattle.dap_plan.proofs.Outcomes.{IsSound, AreBare, bare-live, references-plain}
-use Rattle.dap_plan.proofs.Responses.{KeptAs, kept-as}
+use Rattle.dap_plan.proofs.Responses.{kept-as}
 
 -- ---- found by its number
 
@@ -55,7 +53,7 @@ same-number a b h = grind (arith, nat_tests)
 -- ---- beside the request for a terminal
 
 -- its number is none of theirs
-pub asked-apart : (s : Session) (seq : ℕ) → IsOwnInOrder s → contains_seq seq s.own ≡ true → is_asked seq s.asked ≡ false
+pub asked-apart : (s : Session) (seq : ℕ) → OwnStandApart s → contains_seq seq s.own ≡ true → is_asked seq s.asked ≡ false
 asked-apart s seq o h = by s.asked refl
   where
     by-number : (b : Bool) (n : ℕ) → (n == seq) ≡ b → contains_seq n s.own ≡ false → b ≡ false
@@ -82,7 +80,7 @@ pub record AnswersOwn (s : Session) (r : Entry) : Type 0 where
   pub asked : own_requests s.asked ≡ without_answered (Some (record { request_seq = r.seq; command = r.command })) (own_requests s.asked)
   pub left : asks (without r.seq s.own) ≡ without_answered (Some (record { request_seq = r.seq; command = r.command })) (asks s.own)
 
-answers-kept : (s : Session) (k : Kept) → IsOwnInOrder s → IsKept s.own k → contains_seq k.entry.seq s.own ≡ true → AnswersOwn s k.entry
+answers-kept : (s : Session) (k : Kept) → OwnStandApart s → IsKept s.own k → contains_seq k.entry.seq s.own ≡ true → AnswersOwn s k.entry
 answers-kept s k o i h =
     let w = walked-kept plain_success s.own k o.distinct i in
     let apart = asked-apart s k.entry.seq o h in
@@ -94,7 +92,7 @@ answers-kept s k o i h =
       left = sym w.left_is;
     }
 
-answers-own : (s : Session) (seq : ℕ) (r : Entry) → IsOwnInOrder s → entry_with seq s.own ≡ Some r → AnswersOwn s r
+answers-own : (s : Session) (seq : ℕ) (r : Entry) → OwnStandApart s → entry_with seq s.own ≡ Some r → AnswersOwn s r
 answers-own s seq r o e =
     let k = kept-as seq s.own r e in
     let found = found-in seq s.own r e in
@@ -168,8 +166,8 @@ asked-well command arguments s =
       accepted = tt;
       asked = sym (append-nil (own_requests s.asked)) ∙ ap (λ (qs : List Asked). qs ++ []) (sym (all-open (own_requests s.asked)));
       own =
-          asks-append s.own (kept_unparked (asked_as (s.used + 1) command arguments) ∷ [])
-          ∙ ap (λ (qs : List Asked). qs ++ asked_of (asked_as (s.used + 1) command arguments) ∷ []) (sym (all-open (asks s.own)));
+          asks-append s.own (kept_unparked (request_asked (s.used + 1) command arguments) ∷ [])
+          ∙ ap (λ (qs : List Asked). qs ++ asked_of (request_asked (s.used + 1) command arguments) ∷ []) (sym (all-open (asks s.own)));
       used = refl;
       references = references-plain s m (named-bare command arguments) (is-plain s _ refl refl refl);
       limits = refl;
@@ -187,7 +185,7 @@ contains-more n ks k h other = contains-append n ks (k ∷ []) ∙ both-false (c
 
 asked-own : (command : List ℕ) (arguments : Option Data) (s : Session) → may_ask s ≡ true → KeepsOwn s (after_asking_named command arguments s)
 asked-own command arguments s may o =
-    let new : Kept = kept_unparked (asked_as (s.used + 1) command arguments) in
+    let new : Kept = kept_unparked (request_asked (s.used + 1) command arguments) in
     let count = length-append s.own (new ∷ []) in
     let room = less-of (length s.own + 1) s.limits.requests (and_parts (nat_lt (length s.own + 1) s.limits.requests) (not (contains_seq (s.used + 1) s.own)) may).0 in
     record {

@@ -51,7 +51,7 @@ query-order view s r asked w =
     let q = query-fails s r (query_reason view s asked) (refuses_query view (query_of s) asked) (objects_named view (query_of s) asked) (query_result view (query_of s) asked) (each_query_is_answered_or_refused view (query_of s) asked) (record { references = w.references; numbers = w.numbers }) in
     record { some = q.some; none = λ e. record { asks = refl; answered = λ last. q.none e } }
 
--- no own request waits in Configured
+-- no request for a terminal waits in Configured
 asks_none-start : (phase : Phase) → phase ≡ Configured → asks_none phase ≡ true
 asks_none-start phase h = rw h refl
 

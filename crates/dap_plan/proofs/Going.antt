@@ -28,7 +28,6 @@ each_step_goes_well = record {
   emit = λ name body s made is. (emit-is name body s made is).well tt;
   respond = λ r o s made d l is. (respond-is r o s made l is).well d;
   ask = λ command arguments s made is. (ask-is command arguments s made is).well;
-  by_name = only_ask_asks_by_name;
   fewer = λ view s plan made d e is. ((turn-is view s plan e).row.outcomes made is).fewer d;
 }
 
@@ -42,5 +41,5 @@ each_step_goes_on laws = record {
   emit = λ name body s made h is f. goes_on-alone laws s made h ((emit-is name body s made is).well tt) f;
   respond = λ r o s made h d l is f. goes_on-alone laws s made h ((respond-is r o s made l is).well d) f;
   ask = λ command arguments s made h is f. goes_on-alone laws s made h ((ask-is command arguments s made is).well) f;
-  by_name = only_ask_asks_by_name;
+  only_ask = only_ask_asks_by_name;
 }

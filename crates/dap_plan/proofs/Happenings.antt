@@ -39,7 +39,7 @@ reply-sound s done q = no_change-sound s
 reply-sound s (refused why) q = no_change-sound s
 reply-sound s (happened h) q = after_happening-sound h s q
 
--- no own request waits where there is a debuggee
+-- no request for a terminal waits where there is a debuggee
 none-with-debuggee : (phase : Phase) → has_debuggee phase ≡ true → asks_none phase ≡ true
 none-with-debuggee Asked h = h
 none-with-debuggee Ended h = h

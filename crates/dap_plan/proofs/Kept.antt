@@ -142,7 +142,7 @@ all-open (q ∷ qs) = ap (λ (xs : List Asked). q ∷ xs) (all-open qs)
 pub walked-event : (event : AdapterEvent) (qs : List Asked) → Walked (emit event ∷ []) qs qs
 walked-event event qs = record { each = tt; left_is = all-open qs }
 
--- nor does an own request
+-- nor does a request for a terminal
 pub walked-ask : (qs : List Asked) → Walked (ask ∷ []) qs qs
 walked-ask qs = record { each = tt; left_is = all-open qs }
 

@@ -33,7 +33,7 @@ use Rattle.dap_plan.proofs.Steps.{references_after-append}
 
 -- ---- one step
 
--- whether an own request waits suits the phase, then as before
+-- whether a request for a terminal waits suits the phase, then as before
 abbrev pub Stays : Session → Made → Type 0
 Stays s m = IsAskedIn s.phase s.asked → IsAskedIn m.after.phase m.after.asked
 

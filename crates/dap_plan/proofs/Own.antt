@@ -1,14 +1,13 @@
 -- The requests of whoever holds the adapter that the client has not answered: what a step leaves of them.
-use Rattle.std.proofs.Common.{◌≡◌, ◌⊎◌, inl, inr, ℕ, ◌+◌, ◌<◌, ◌≤◌, List, [], ◌∷◌, Bool, true, false, Option, Some, None, length, refl, sym, ap, ◌∙◌, subst, arith, true≢false}
+use Rattle.std.proofs.Common.{◌≡◌, ◌⊎◌, inl, inr, ℕ, ◌+◌, ◌<◌, ◌≤◌, List, [], ◌∷◌, false, Some, refl, arith}
 use Rattle.std.specs.Prelude.{◌==◌}
 use Rattle.std.specs.List.{AllByRecursion}
 use Rattle.std.proofs.lemmas.Bool.Decides.{nat_tests}
-use Rattle.dap_history.specs.History.{Asked}
 use Rattle.dap_outbox.specs.Draft.{Draft, reply, emit, ask, ask_named, named_in}
 use Rattle.dap_tables.specs.Outstanding.{Kept, contains_seq}
 use Rattle.dap_plan.specs.Laws.{AskNoneByName}
 use Rattle.dap_plan.specs.Plan.{Made}
-use Rattle.dap_plan.specs.Session.{Session, IsOwnInOrder}
+use Rattle.dap_plan.specs.Session.{Session, OwnStandApart}
 use Rattle.dap_plan.proofs.Kept.{both-false}
 
 -- ---- numbers that were given
@@ -39,7 +38,7 @@ none-named used (ask_named command arguments ∷ ds) n = absurd n
 -- ---- a step
 
 abbrev pub KeepsOwn : Session → Made → Type 0
-KeepsOwn s m = IsOwnInOrder s → IsOwnInOrder m.after
+KeepsOwn s m = OwnStandApart s → OwnStandApart m.after
 
 -- none is asked or answered; a request for a terminal that waits then waited, or its number is of this step
 pub record OwnStays (s : Session) (m : Made) : Type 0 where
@@ -47,11 +46,11 @@ pub record OwnStays (s : Session) (m : Made) : Type 0 where
   pub none : AskNoneByName m.drafts
   pub asked : (seq : ℕ) → m.after.asked ≡ Some seq → (s.asked ≡ Some seq) ⊎ ((s.used < seq) × (seq ≤ m.after.used))
 
-apart-by : (s : Session) (m : Made) (seq : ℕ) → IsOwnInOrder s → (s.asked ≡ Some seq) ⊎ ((s.used < seq) × (seq ≤ m.after.used)) → contains_seq seq s.own ≡ false
+apart-by : (s : Session) (m : Made) (seq : ℕ) → OwnStandApart s → (s.asked ≡ Some seq) ⊎ ((s.used < seq) × (seq ≤ m.after.used)) → contains_seq seq s.own ≡ false
 apart-by s m seq o (inl e) = o.apart seq e
 apart-by s m seq o (inr l) = not-given s.used seq s.own o.given l.0
 
-given-by : (s : Session) (m : Made) (seq : ℕ) → IsOwnInOrder s → s.used ≤ m.after.used → (s.asked ≡ Some seq) ⊎ ((s.used < seq) × (seq ≤ m.after.used)) → seq ≤ m.after.used
+given-by : (s : Session) (m : Made) (seq : ℕ) → OwnStandApart s → s.used ≤ m.after.used → (s.asked ≡ Some seq) ⊎ ((s.used < seq) × (seq ≤ m.after.used)) → seq ≤ m.after.used
 given-by s m seq o u (inl e) = let small = o.asked_given seq e in omega arith
 given-by s m seq o u (inr l) = l.1
 

@@ -1,4 +1,4 @@
--- Where an own request may wait: an effect of the table is found in a phase that suits it, also where a terminal is asked for first.
+-- Where a request for a terminal may wait: an effect of the table is found in a phase that suits it, also where a terminal is asked for first.
 use Rattle.std.proofs.Common.{◌≡◌, Bool, true, false, Option, Some, None, refl, sym, ◌∙◌, subst, true≢false}
 use Rattle.std.specs.Prelude.{ℕ, if◌then◌else◌, ⊤}
 use Rattle.dap_call.specs.declared.call.Call.{Call}
@@ -18,7 +18,7 @@ use Rattle.dap_decision.specs.Table.{effect_in}
 use Rattle.dap_plan.proofs.ServedInOrder.{first_of}
 use Rattle.dap_plan.proofs.Starts.{starts-configured}
 
--- ---- phases in which no own request waits
+-- ---- phases in which no request for a terminal waits
 
 abbrev pub asks_none : Phase → Bool
 asks_none Asked = false
@@ -37,7 +37,7 @@ none-started (happened x) asked h = h
 
 -- ---- an effect and its phase
 
--- may be found where an own request waits
+-- may be found where a request for a terminal waits
 abbrev may_wait : Effect → Bool
 may_wait effect.Change = true
 may_wait effect.Query = true

@@ -1,5 +1,5 @@
 -- What each row of the table is shown by: the outcome of its effect.
-use Rattle.std.proofs.Common.{◌≡◌, ℕ, ◌+◌, List, [], ◌∷◌, ◌++◌, Bool, true, false, Option, Some, None, Ok, Err, length, refl, sym, ap, ◌∙◌, subst, arith, length-append, filter, map, ◌<◌, ◌≤◌, inl, inr}
+use Rattle.std.proofs.Common.{◌≡◌, ℕ, ◌+◌, List, [], ◌∷◌, ◌++◌, Bool, true, false, Option, Some, None, Ok, Err, length, refl, sym, ap, ◌∙◌, subst, arith, length-append, filter, map, ◌<◌, ◌≤◌, inr}
 use Rattle.std.specs.Prelude.{◌==◌, not, if◌then◌else◌, nat_lt}
 use Rattle.std.proofs.lemmas.List.Elements.{filter-append}
 use Rattle.std.proofs.lemmas.List.{append-nil, length-map}

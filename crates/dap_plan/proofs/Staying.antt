@@ -18,7 +18,7 @@ use Rattle.dap_plan.specs.Responding.{IsLent, responds}
 use Rattle.dap_message.specs.declared.outcome.Outcome.{Outcome}
 use Rattle.dap_tables.specs.declared.entry.Entry.{Entry}
 use Rattle.serde_json.specs.Data.{Data}
-use Rattle.dap_plan.specs.Session.{Session, IsOrderly, IsOwnInOrder, opened_session}
+use Rattle.dap_plan.specs.Session.{Session, IsOrderly, OwnStandApart, opened_session}
 use Rattle.dap_plan.specs.Taking.{takes}
 use Rattle.dap_plan.specs.Within.{IsWithin, EachStepStaysWithin}
 use Rattle.dap_plan.proofs.Asks.{ask-is, next-is-new}
@@ -93,7 +93,7 @@ respond-stays r o s made i l is u = let p = respond-is r o s made l is in none-c
 ask-stays : (command : List ℕ) (arguments : Option Data) (s : Session) (made : Made) → IsWithin s → may_ask s ≡ true → CanMake (asks_named command arguments s) made → made.after.used ≤ s.limits.seq → IsWithin made.after
 ask-stays command arguments s made i may is u = let p = ask-is command arguments s made is in none-came s made i p.moves (λ suits. rw (p.same.0, p.same.1) suits) (p.own may) p.well u
 
-own-opened : (limits : Settings) (offers : Offer) → 1 ≤ limits.requests → IsOwnInOrder (opened_session limits offers)
+own-opened : (limits : Settings) (offers : Offer) → 1 ≤ limits.requests → OwnStandApart (opened_session limits offers)
 own-opened limits offers h = record { distinct = tt; apart = λ seq e. refl; given = tt; asked_given = λ seq e. absurd cc; places = omega arith }
 
 opened-within : (limits : Settings) (offers : Offer) → 1 ≤ limits.requests → IsWithin (opened_session limits offers)

@@ -7,7 +7,7 @@ use Rattle.dap_envelope.specs.declared.message.Message.{Message}
 use Rattle.dap_tables.specs.Outstanding.{HasDistinctSeqs}
 use Rattle.dap_debuggee.specs.Shown.{Shown}
 use Rattle.dap_plan.specs.Handling.{turns}
-use Rattle.dap_plan.specs.Laws.{CanMake, OnlyAskAsksByName}
+use Rattle.dap_plan.specs.Laws.{CanMake}
 use Rattle.dap_plan.specs.Plan.{Made, Plan, entries_of}
 use Rattle.dap_outbox.specs.Draft.{Draft, reply, emit, ask, ask_named, named_in, requests_in}
 use Rattle.dap_plan.specs.Polling.{polls}
@@ -70,6 +70,5 @@ pub record EachStepGoesWell : Type 0 where
   pub emit : (name : List ℕ) (body : Option Data) (s : Session) (made : Made) → CanMake (emits name body s) made → GoesWell s [] None made
   pub respond : (r : Request) (o : Outcome) (s : Session) (made : Made) → IsOrderly s → IsLent s r → CanMake (responds r o s) made → GoesWell s [] None made
   pub ask : (command : List ℕ) (arguments : Option Data) (s : Session) (made : Made) → CanMake (asks_named command arguments s) made → GoesWell s [] None made
-  pub by_name : OnlyAskAsksByName
   -- fewer requests are left to handle after a turn
   pub fewer : (view : Shown) (s : Session) (plan : Plan) (made : Made) → HasDistinctSeqs s.kept → turns view s ≡ Ok (Some plan) → CanMake plan made → to_handle made.after.kept < to_handle s.kept

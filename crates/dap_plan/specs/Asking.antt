@@ -1,6 +1,6 @@
 -- A request of whoever holds the adapter to the client: its command and its arguments are theirs.
 -- Specification, "Request", "StartDebugging Request", "RunInTerminal Request". Which refusals there are, their order, and that a place is left for the request for a terminal, is this profile's choice.
-use Rattle.std.specs.Prelude.{◌≡◌, ℕ, ◌+◌, List, [], ◌∷◌, ◌++◌, length, nat_le, nat_lt, not, ◌&&◌, Bool, true, false, Option, Some, None, find}
+use Rattle.std.specs.Prelude.{◌≡◌, ℕ, ◌+◌, List, [], ◌∷◌, ◌++◌, length, nat_le, nat_lt, not, ◌&&◌, Bool, false, Option, Some, None, find}
 use Rattle.serde_json.specs.Data.{Data}
 use Rattle.dap_envelope.specs.Refusals.{max_command}
 use Rattle.dap_tables.specs.Outstanding.{kept_unparked, contains_seq}
@@ -51,15 +51,15 @@ IsWhyNotAsked f command arguments closed s = first_ask_fault ask_faults command 
 -- ---- what comes of it
 
 -- as it is kept until the client answers it
-abbrev pub asked_as : ℕ → List ℕ → Option Data → Entry
-asked_as seq command arguments = record { seq = seq; command = command; arguments = arguments }
+abbrev pub request_asked : ℕ → List ℕ → Option Data → Entry
+request_asked seq command arguments = record { seq = seq; command = command; arguments = arguments }
 
 -- one message is written, and the request is kept with its number
 abbrev pub after_asking_named : List ℕ → Option Data → Session → Made
 after_asking_named command arguments s = record {
   drafts = ask_named command arguments ∷ [];
   drops = false;
-  after = record s { own = s.own ++ kept_unparked (asked_as (s.used + 1) command arguments) ∷ []; used = s.used + 1 };
+  after = record s { own = s.own ++ kept_unparked (request_asked (s.used + 1) command arguments) ∷ []; used = s.used + 1 };
 }
 
 -- the debuggee is asked nothing

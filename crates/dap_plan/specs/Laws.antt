@@ -64,4 +64,4 @@ pub record EachStepGoesOn : Type 0 where
       → Follows s h → Follows made.after (h ++ entries_of s.used made)
   pub ask : (command : List ℕ) (arguments : Option Data) (s : Session) (made : Made) (h : List Entry) → CanMake (asks_named command arguments s) made
       → Follows s h → Follows made.after (h ++ entries_of s.used made)
-  pub by_name : OnlyAskAsksByName
+  pub only_ask : OnlyAskAsksByName

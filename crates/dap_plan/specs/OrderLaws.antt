@@ -202,7 +202,7 @@ IsDoneOrRefused s r last m = m ≡ after_answering r (failing s r Debuggee (reas
 abbrev pub AreAnswered : Session → List Kept → Reply → Made → Type 0
 AreAnswered s parked last m = AllByRecursion (λ k. IsByReply s parked last (answer_to k.entry.seq m.drafts)) parked
 
--- just one own request is written, which asks for a terminal, and its answer is waited for
+-- just one request to the client is written, that for a terminal, and its answer is waited for
 pub record AsksTerminal (s : Session) (m : Made) : Type 0 where
   pub seq : ℕ
   pub one : requests_in s.used m.drafts ≡ own_request seq ∷ []

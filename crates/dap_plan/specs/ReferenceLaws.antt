@@ -52,14 +52,14 @@ pub record IsResponded (s : Session) (made : Made) : Type 0 where
   pub lent : IsLent s entry
   pub can : CanMake (responds entry outcome s) made
 
-pub record IsAsked (s : Session) (made : Made) : Type 0 where
+pub record IsAskedByName (s : Session) (made : Made) : Type 0 where
   pub command : List ℕ
   pub arguments : Option Data
   pub can : CanMake (asks_named command arguments s) made
 
 -- a message was delivered, a request handled, the debuggee asked what happened, an event told by its name, a lent request answered, or a request asked by its name
 abbrev pub IsStep : Session → Made → Type 0
-IsStep s made = IsTaken s made ⊎ (IsTurned s made ⊎ (CanMake (polls s) made ⊎ (IsEmitted s made ⊎ (IsResponded s made ⊎ IsAsked s made))))
+IsStep s made = IsTaken s made ⊎ (IsTurned s made ⊎ (CanMake (polls s) made ⊎ (IsEmitted s made ⊎ (IsResponded s made ⊎ IsAskedByName s made))))
 
 abbrev pub Runs : List Made → Session → Session → Type 0
 Runs [] s new = new ≡ s

@@ -29,7 +29,7 @@ pub record Session : Type 0 where
   pub breakpoints : SetBreakpoints
   -- the number of the request for a terminal that is not answered
   pub asked : Option ℕ
-  -- the requests of whoever holds the adapter that the client has not answered, in the order of their numbers
+  -- the requests of whoever holds the adapter that the client has not answered, in the order in which they were asked
   pub own : List Kept
   -- own sequence numbers that were given
   pub used : ℕ
@@ -103,7 +103,7 @@ IsAskedIn Ended asked = ⊤
 IsAskedIn _ asked = asked ≡ None
 
 -- the requests of whoever holds the adapter, beside the one for a terminal
-pub record IsOwnInOrder (s : Session) : Type 0 where
+pub record OwnStandApart (s : Session) : Type 0 where
   -- no two have the same number
   pub distinct : HasDistinctSeqs s.own
   pub apart : (seq : ℕ) → s.asked ≡ Some seq → contains_seq seq s.own ≡ false
@@ -117,4 +117,4 @@ pub record IsOwnInOrder (s : Session) : Type 0 where
 pub record IsOrderly (s : Session) : Type 0 where
   pub distinct : HasDistinctSeqs s.kept
   pub asked : IsAskedIn s.phase s.asked
-  pub own : IsOwnInOrder s
+  pub own : OwnStandApart s

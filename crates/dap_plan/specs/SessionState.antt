@@ -12,7 +12,7 @@ use Rattle.dap_decision.specs.declared.decision.Decision.TheVariants.{Refuses, S
 use Rattle.dap_plan.specs.declared.fault.AdapterFault.{AdapterFault}
 use Rattle.dap_plan.specs.declared.fault.AdapterFault.TheVariants.{SeqExhausted, OutOfMemory}
 use Rattle.dap_plan.specs.Carried.{Goes, CarriedOut}
-use Rattle.dap_outbox.specs.InRange.{AnswersInRange}
+use Rattle.dap_outbox.specs.InRange.{AreDraftsInRange}
 use Rattle.dap_plan.specs.Handling.{plan_for, some_plan, turns}
 use Rattle.dap_plan.specs.Plan.{Made, Plan, at_once, asking, messages_due, plan_within_numbers, after_answering, written_by}
 use Rattle.dap_outbox.specs.Draft.{failure, bytes_of}
@@ -38,12 +38,13 @@ pub record IsSession (limits : Settings) (offers : Offer) (table : KeptRequests)
   pub last : numbers.last ≡ limits.seq
   pub used : numbers.used ≤ numbers.last
   pub fits : IsTrue (offers_fit limits offers)
-  pub own_room : own.room ≡ limits.requests
+  -- a place is left for the request for a terminal
+  pub own_room : own.room + 1 ≡ limits.requests
 
--- these bytes are the messages of a step; a client with the same limit on bodies reads each of them, where the requests that they answer are in range
+-- these bytes are the messages of a step; a client with the same limit on bodies reads each of them, where the requests that they answer, and the names that they ask by, are in range
 pub record Tells (old : Session) (m : Made) (bytes : List ℕ) : Type 0 where
   pub bytes_are : bytes ≡ bytes_of (written_by old m)
-  pub reads_back : AnswersInRange m.drafts → AllReadBack old.limits.body (written_by old m)
+  pub reads_back : AreDraftsInRange m.drafts → AllReadBack old.limits.body (written_by old m)
 
 -- the session is what was made, and these bytes say so
 pub record MadeBy (m : Made) (old new : Session) (bytes : List ℕ) : Type 0 where

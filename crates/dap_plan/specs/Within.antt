@@ -17,7 +17,7 @@ use Rattle.dap_message.specs.declared.outcome.Outcome.{Outcome}
 use Rattle.dap_tables.specs.declared.entry.Entry.{Entry as Request}
 use Rattle.dap_plan.specs.Asking.{asks_named, may_ask}
 use Rattle.dap_plan.specs.Emitting.{emits}
-use Rattle.dap_plan.specs.Session.{Session, IsAskedIn, IsOwnInOrder, opened_session}
+use Rattle.dap_plan.specs.Session.{Session, IsAskedIn, OwnStandApart, opened_session}
 use Rattle.dap_plan.specs.Taking.{takes}
 
 -- a session keeps to its limits
@@ -25,10 +25,10 @@ pub record IsWithin (s : Session) : Type 0 where
   -- no two kept requests have the same number
   pub distinct : HasDistinctSeqs s.kept
   pub kept : length s.kept ≤ s.limits.requests
-  -- whether an own request waits suits the phase
+  -- whether a request for a terminal waits suits the phase
   pub asked : IsAskedIn s.phase s.asked
   -- the requests of whoever holds the adapter stand apart, and leave a place
-  pub own : IsOwnInOrder s
+  pub own : OwnStandApart s
   -- own sequence numbers
   pub used : s.used ≤ s.limits.seq
   -- as many as are live

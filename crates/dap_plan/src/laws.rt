@@ -83,7 +83,7 @@ pub fn refusals_come_in_order()
 /// have, whose test holds, and does nothing else. Where none holds the debuggee is asked just what the effect asks, and the
 /// request succeeds or is parked; `launch`, `attach`, a resumption, and `pause` while it runs, fail as `debuggee`, and nothing
 /// else is done, where the debuggee refuses. Where a terminal is asked for first, the debuggee is asked nothing, and just one
-/// own request is written: `launch` is parked then, or `configurationDone` succeeds and what is parked stays so.
+/// request to the client is written, that for a terminal: `launch` is parked then, or `configurationDone` succeeds and what is parked stays so.
 pub fn failures_come_in_order()
     ensures { FailuresComeInOrder }
 {}

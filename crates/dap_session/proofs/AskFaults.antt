@@ -1,6 +1,6 @@
 -- A request that is asked by its name: why it is not, and what comes of the client's response.
-use Rattle.std.proofs.Common.{◌≡◌, ℕ, List, [], Bool, true, false, Option, Some, None, Ok, Err, refl, sym, ap, ◌∙◌, length}
-use Rattle.std.specs.Prelude.{bytes_eq, if◌then◌else◌, nat_lt, not, Result}
+use Rattle.std.proofs.Common.{◌≡◌, ℕ, List, [], Bool, true, false, Option, Some, None, Ok, Err, refl, ap, length}
+use Rattle.std.specs.Prelude.{bytes_eq, if◌then◌else◌, nat_lt, not}
 use Rattle.std.specs.Option.{option_map}
 use Rattle.serde_json.specs.Data.{Data}
 use Rattle.dap_envelope.specs.Refusals.{max_command}
@@ -9,11 +9,10 @@ use Rattle.dap_tables.specs.declared.entry.Entry.{Entry}
 use Rattle.dap_plan.specs.Asking.{IsWhyNotAsked, early_ask_faults, first_ask_fault, may_ask}
 use Rattle.dap_plan.specs.Carried.{Goes}
 use Rattle.dap_plan.specs.Emitting.{tells_events}
-use Rattle.dap_plan.specs.Plan.{Plan, at_once}
+use Rattle.dap_plan.specs.Plan.{at_once}
 use Rattle.dap_plan.specs.Session.{Session}
 use Rattle.dap_plan.specs.SessionState.{HasTaken, SessionState}
 use Rattle.dap_plan.specs.Taking.{after_own_response, takes_response, takes_response_of, takes_terminal_response}
-use Rattle.dap_plan.specs.declared.fault.AdapterFault.{AdapterFault}
 use Rattle.dap_plan.specs.declared.fault.AdapterFault.TheVariants.{CommandMismatch}
 use Rattle.dap_plan.specs.declared.fault.AskFault.{AskFault}
 use Rattle.dap_plan.specs.declared.fault.AskFault.TheVariants as fault

@@ -18,11 +18,11 @@ mod own;
 mod polling;
 mod querying;
 mod reply;
-mod requesting;
 mod responding;
 mod session;
 mod starting;
 mod taking;
+mod terminal;
 
 pub use dap_decision::Phase;
 pub use dap_outbox::Lent;

@@ -36,7 +36,7 @@ pub struct Session<D: Debuggee + Drop> {
     pub(crate) breakpoints: Breakpoints,
     /// The number of the request for a terminal that is not answered.
     pub(crate) asked: Option<u64>,
-    /// Those of whoever holds the session that are not answered.
+    /// Those of whoever holds the session that are not answered. They leave a place for the one for a terminal.
     pub(crate) own: OwnRequests,
     pub(crate) numbers: Seq,
     /// What it offers.
@@ -103,7 +103,7 @@ impl<D: Debuggee + Drop> Session<D> {
             kept,
             breakpoints,
             asked: None,
-            own: OwnRequests::none(limits.requests()),
+            own: OwnRequests::none(limits.requests() - 1),
             numbers,
             offers,
             debuggee,
@@ -160,7 +160,7 @@ impl<D: Debuggee + Drop> Session<D> {
     /// How many requests of whoever holds the session are not answered.
     pub fn asked_by_name(&self) -> usize
         ensures own { result ≡ length self.now.session.own }
-        ensures bound { result ≤ self.now.session.limits.requests }
+        ensures bound { result < self.now.session.limits.requests }
     {
         self.own.len()
     }
@@ -301,7 +301,7 @@ impl<D: Debuggee + Drop> Session<D> {
     ) -> Result<(), AllocError>
         requires last { out.now.numbers.last ≡ self.old.session.limits.seq }
         requires new { contains_seq request.seq self.old.session.own ≡ false }
-        requires room { length self.old.session.own < self.old.session.limits.requests }
+        requires room { length self.old.session.own + 1 < self.old.session.limits.requests }
         ensures ok { OnOk result (self.new ≡ record self.old { session = record self.old.session { own = self.old.session.own ++ kept_unparked request ∷ []; used = out.now.numbers.used } }) }
         ensures err { OnErr result (self.new ≡ self.old) }
     {

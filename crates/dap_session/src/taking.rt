@@ -284,10 +284,12 @@ impl<D: Debuggee + Drop> Session<D> {
         }
     }
 
-    /// Takes a message that was delivered: a request is kept, or answered at once. A response that answers no own request is
-    /// `Unmatched`, one to another command is `CommandMismatch`. While a terminal is waited for, a success starts the debuggee,
-    /// and a failure fails what waits for that; a later one ends the waiting for an answer, and nothing else. An event, and a message
-    /// of another kind, have no effect. What is written is appended to `out`; where it fails, `out` is as it was.
+    /// Takes a message that was delivered: a request is kept, or answered at once. A response that answers no request of the
+    /// session is `Unmatched`, one to another command is `CommandMismatch`. One to a request of whoever holds the session ends
+    /// its waiting, and nothing else. One to the request for a terminal starts the debuggee where it is a success, and fails
+    /// what waits for that where it is none, while the terminal is waited for; later it ends the waiting for an answer, and
+    /// nothing else. An event, and a message of another kind, have no effect. What is written is appended to `out`; where it
+    /// fails, `out` is as it was.
     pub fn take(
         &mut self,
         alloc: Global,

@@ -308,7 +308,7 @@ module _ {D : Type 0} (laws : Laws) (shown : D → Shown) (follows : Goes D) (li
       let well : GoesWell s came (response_as t.message.kind) made = laws.goes_well.take s t.message t.plan made (orderly s st.adapter_within) t.taken can in
       let asked = requests-first (IsSent g.by old.client.used) (request_as t.message.seq t.message.kind) (requests_among t.later) (subst (λ (z : List Message). All (IsSent g.by old.client.used) (requests_among z)) t.first g.up) in
       let answered = responses-first IsOwnResponse (response_as t.message.kind) (responses_among t.later) (subst (λ (z : List Message). All IsOwnResponse (responses_among z)) t.first g.own_up) in
-      subst (λ (x : World D). Sent x) (sym (written follows old new t.later t.plan t.step.adapter t.step.session t.step.is)) (made-sent old t.later came (response_as t.message.kind) made v g well (laws.goes_well.by_name.take s t.message t.plan made t.taken can) asked.0 asked.1 answered.1)
+      subst (λ (x : World D). Sent x) (sym (written follows old new t.later t.plan t.step.adapter t.step.session t.step.is)) (made-sent old t.later came (response_as t.message.kind) made v g well (laws.only_ask.take s t.message t.plan made t.taken can) asked.0 asked.1 answered.1)
 
   turn-sent : (old new : World D) → Turns shown follows old new → Stands limits old → Sent old → Sent new
   turn-sent old new t st g =
@@ -317,7 +317,7 @@ module _ {D : Type 0} (laws : Laws) (shown : D → Shown) (follows : Goes D) (li
       let v = t.step.adapter.debuggee in
       let can : CanMake t.plan made = can_make follows t.plan old.adapter.debuggee v made t.step.session.carried in
       let well : GoesWell s [] None made = laws.goes_well.turn (shown old.adapter.debuggee) s t.plan made (orderly s st.adapter_within) t.turned can in
-      subst (λ (x : World D). Sent x) (sym (written follows old new old.up t.plan t.step.adapter t.step.session t.step.is)) (made-sent old old.up [] None made v g well (laws.goes_well.by_name.turn (shown old.adapter.debuggee) s t.plan made t.turned can) tt g.up g.own_up)
+      subst (λ (x : World D). Sent x) (sym (written follows old new old.up t.plan t.step.adapter t.step.session t.step.is)) (made-sent old old.up [] None made v g well (laws.only_ask.turn (shown old.adapter.debuggee) s t.plan made t.turned can) tt g.up g.own_up)
 
   poll-sent : (old new : World D) → Polls follows old new → Stands limits old → Sent old → Sent new
   poll-sent old new t st g =
@@ -326,7 +326,7 @@ module _ {D : Type 0} (laws : Laws) (shown : D → Shown) (follows : Goes D) (li
       let v = t.step.adapter.debuggee in
       let can : CanMake (polls s) made = can_make follows (polls s) old.adapter.debuggee v made t.step.session.carried in
       let well : GoesWell s [] None made = laws.goes_well.poll s made can in
-      subst (λ (x : World D). Sent x) (sym (written follows old new old.up (polls s) t.step.adapter t.step.session t.step.is)) (made-sent old old.up [] None made v g well (laws.goes_well.by_name.poll s made can) tt g.up g.own_up)
+      subst (λ (x : World D). Sent x) (sym (written follows old new old.up (polls s) t.step.adapter t.step.session t.step.is)) (made-sent old old.up [] None made v g well (laws.only_ask.poll s made can) tt g.up g.own_up)
 
   emit-sent : (name : List ℕ) (body : Option Data) (old new : World D) → Emits follows name body old new → Stands limits old → Sent old → Sent new
   emit-sent name body old new t st g =
@@ -335,7 +335,7 @@ module _ {D : Type 0} (laws : Laws) (shown : D → Shown) (follows : Goes D) (li
       let v = t.step.adapter.debuggee in
       let can : CanMake (emits name body s) made = can_make follows (emits name body s) old.adapter.debuggee v made t.step.session.carried in
       let well : GoesWell s [] None made = laws.goes_well.emit name body s made can in
-      subst (λ (x : World D). Sent x) (sym (written follows old new old.up (emits name body s) t.step.adapter t.step.session t.step.is)) (made-sent old old.up [] None made v g well (laws.goes_well.by_name.emit name body s made can) tt g.up g.own_up)
+      subst (λ (x : World D). Sent x) (sym (written follows old new old.up (emits name body s) t.step.adapter t.step.session t.step.is)) (made-sent old old.up [] None made v g well (laws.only_ask.emit name body s made can) tt g.up g.own_up)
 
   down-sent : (old new : World D) → ComesDown old new → Stands limits old → Sent old → Sent new
   down-sent old new t st g =

@@ -1,5 +1,6 @@
 -- Sessions that are played out: an adapter over a debuggee that answers each act in one way, call by call.
 use Rattle.std.proofs.Common.{ℕ, ◌+◌, ◌++◌, List, [], ◌∷◌, length, Bool, true, false, Option, Some, None, Result, Ok, Err, codes, pos, nat_le, if◌then◌else◌, map, drop}
+use Rattle.serde_json.specs.Data.{Data}
 use Rattle.dap_json.specs.Read.{json_of}
 use Rattle.dap_frame.specs.Settings.{Settings}
 use Rattle.dap_envelope.specs.Canon.{canon}
@@ -8,12 +9,21 @@ use Rattle.dap_envelope.specs.declared.message.Kind.TheVariants.{Request}
 use Rattle.dap_debuggee.specs.Shown.{Shown, Act, to_start, Reply, refused}
 use Rattle.dap_replay.specs.Played.{Played, fresh_played, act_on, with_ask, shown_of}
 use Rattle.dap_recording.specs.declared.recording.Recording.{Recording}
+use Rattle.dap_tables.specs.Outstanding.{entry_with}
+use Rattle.dap_tables.specs.declared.entry.Entry.{Entry}
+use Rattle.dap_message.specs.declared.outcome.Outcome.{Outcome}
 use Rattle.dap_plan.specs.declared.fault.AdapterFault.{AdapterFault}
 use Rattle.dap_plan.specs.declared.fault.AdapterFault.TheVariants.{SeqExhausted}
+use Rattle.dap_plan.specs.declared.fault.AskFault.{AskFault}
+use Rattle.dap_plan.specs.declared.fault.EmitFault.{EmitFault}
+use Rattle.dap_plan.specs.declared.fault.RespondFault.{RespondFault}
+use Rattle.dap_plan.specs.Asking.{ask_faults, asks_named, first_ask_fault}
+use Rattle.dap_plan.specs.Emitting.{emit_faults, emits, first_emit_fault}
 use Rattle.dap_plan.specs.Handling.{turns}
 use Rattle.dap_plan.specs.Plan.{Made, Plan, at_once, asking}
 use Rattle.dap_outbox.specs.Draft.{numbered_messages}
 use Rattle.dap_plan.specs.Polling.{polls}
+use Rattle.dap_plan.specs.Responding.{first_respond_fault, respond_faults, responds}
 use Rattle.dap_plan.specs.Session.{Session, fresh_session}
 use Rattle.dap_plan.specs.Taking.{takes}
 
@@ -70,6 +80,10 @@ pub data Calls : Type 0 where
   comes : Message → Calls
   turn : Calls
   poll : Calls
+  -- whoever holds the adapter answers the lent request with this number; tells an event; asks the client
+  responds_to : ℕ → Outcome → Calls
+  tells : List ℕ → Option Data → Calls
+  asks : List ℕ → Option Data → Calls
 
 abbrev pub written_by : Made → Stubborn → At → At
 written_by m v at = record { session = m.after; view = v; written = at.written ++ numbered_messages at.session.used m.drafts; fault = None }
@@ -94,10 +108,26 @@ turned (Ok None) at = at
 turned (Ok (Some p)) at = carried p at
 turned (Err fault) at = record at { fault = Some fault }
 
+-- what is refused to whoever holds the adapter changes nothing
+abbrev pub responded : Option RespondFault → Option Entry → Outcome → At → At
+responded None (Some r) o at = carried (responds r o at.session) at
+responded _ _ o at = at
+
+abbrev pub told : Option EmitFault → Plan → At → At
+told None p at = carried p at
+told (Some fault) p at = at
+
+abbrev pub asked : Option AskFault → Plan → At → At
+asked None p at = carried p at
+asked (Some fault) p at = at
+
 abbrev pub called : Calls → At → At
 called (comes m) at = taken (takes m at.session) at
 called turn at = turned (turns (view_of at.view) at.session) at
 called poll at = carried (polls at.session) at
+called (responds_to seq o) at = responded (first_respond_fault respond_faults seq o false at.session) (entry_with seq at.session.kept) o at
+called (tells name body) at = told (first_emit_fault emit_faults name body false at.session) (emits name body at.session) at
+called (asks command arguments) at = asked (first_ask_fault ask_faults command arguments false at.session) (asks_named command arguments at.session) at
 
 -- a fault stays
 abbrev pub unless_closed : Option AdapterFault → At → At → At

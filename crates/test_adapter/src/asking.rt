@@ -4,7 +4,7 @@ use crate::holding::Holder;
 use std::test::Fail;
 use test_kit::rows::play_rows;
 
-static ROWS: [&str; 14] = [
+pub(crate) static ROWS: [&str; 15] = [
     r#"
 row asked and answered
 from ready
@@ -83,6 +83,23 @@ ask 0 mine
 waits 1
 > {"seq":3,"type":"response","request_seq":3,"success":true,"command":"mine"}
 waits 1
+"#,
+    r#"
+# By `take` a response is taken still, and a request is not.
+row taken after the end
+from ready
+ask 3 mine
+< {"command":"mine","seq":3,"type":"request"}
+ask 4 yours
+< {"command":"yours","seq":4,"type":"request"}
+> {"seq":2,"type":"request","command":"disconnect"}
+< {"command":"disconnect","request_seq":2,"seq":5,"success":true,"type":"response"}
+take {"seq":3,"type":"response","request_seq":4,"success":true,"command":"yours"}
+waits 1
+take {"seq":4,"type":"response","request_seq":3,"success":false,"command":"mine"}
+waits 0
+take {"seq":5,"type":"response","request_seq":3,"success":true,"command":"mine"}
+! Unmatched
 "#,
     r#"
 row names of 64 and of 65 bytes

@@ -5,6 +5,7 @@
 //! | `opened NAME NAME!` | these commands are opened, those with `!` of stops alone |
 //! | `from ready`, `from stopped` | before the row `initialize` came, and the start up to the stop at the entry |
 //! | `> BODY` | this message comes |
+//! | `take BODY` | it comes by `take` alone, in its frame, and nothing goes out |
 //! | `< BODY` | this one goes out next |
 //! | `lent N N` | the requests with these numbers are lent, by arrival |
 //! | `success N BODY` | the request with this number is answered so, with this body or none |
@@ -23,17 +24,21 @@ use dap_adapter::{
 };
 use dap_envelope::is_plain_tree;
 use dap_frame::Limits;
-use dap_json::{Text, Tree, parse};
+use dap_json::{ParseFault, Text, Tree, parse};
 use dap_replay::Recorded;
-use std::alloc::Global;
+use std::alloc::{AllocError, Global};
 use std::fmt::Write;
 use std::marker::Model;
-use test_kit::given::{Given, wrong};
+use test_kit::bodies::frame_of;
+use test_kit::given::{Given, note, wrong};
 use test_kit::outcome::Outcome as Played;
 use test_kit::player::{Player, Setting};
 use test_kit::rows::heading;
 use test_kit::samples::RECORDING;
 use test_kit::words::parts;
+
+/// `scripts/refuse-allocations` plays a copy with each allocation refused in turn, in which this is false.
+const IS_AMPLE: bool = true;
 
 pub(crate) const INITIALIZE: &str = r#"{"seq":1,"type":"request","command":"initialize"}"#;
 
@@ -107,16 +112,36 @@ pub(crate) fn answer(
     let mut out = Vec::new(alloc);
     match adapter.respond(alloc, seq, outcome, &mut out) {
         Ok(()) => Ok(out),
+        Err(_) if !out.is_empty() => Err("written"),
         Err(fault) => Err(name_of(fault)),
     }
 }
 
 /// The value that a text is; none where that is no JSON.
-pub(crate) fn body_in(alloc: Global, text: &str) -> Option<Tree> {
+pub(crate) fn body_in(alloc: Global, text: &str) -> Result<Option<Tree>, AllocError> {
     match parse(alloc, text.as_bytes()) {
-        Ok(value) => Some(Tree::new(value)),
-        Err(_) => None,
+        Ok(value) => Ok(Some(Tree::new(value))),
+        Err(ParseFault::NotJson) => Ok(None),
+        Err(ParseFault::OutOfMemory) => Err(AllocError),
     }
+}
+
+/// What a row needs is not there: wrong where there is memory for all.
+fn missing() -> Played {
+    if IS_AMPLE {
+        Played::Wrong
+    } else {
+        Played::Refused
+    }
+}
+
+fn is_lent(adapter: &Adapter<Recorded>, seq: u64) -> bool {
+    for request in adapter.lent() {
+        if request.seq == seq {
+            return true;
+        }
+    }
+    false
 }
 
 /// The numbers of the requests that are lent.
@@ -183,144 +208,195 @@ impl Holder {
         self.given.is_named() && self.refusal.is_empty()
     }
 
-    fn hears(&mut self, alloc: Global, body: &str) -> bool {
+    /// Whether a fault closed the adapter.
+    fn is_closed(&mut self, alloc: Global) -> bool {
+        let mut out = Vec::new(alloc);
+        let refused = self.adapter.ask(alloc, "mine", None, &mut out);
+        matches!(refused, Err(AskFault::Closed))
+    }
+
+    /// Keeps why a message closed the adapter; refused where memory was.
+    fn fails_by(&mut self, alloc: Global, fault: AdapterFault) -> Played {
+        if fault == AdapterFault::OutOfMemory {
+            return Played::of_refusal(self.is_closed(alloc));
+        }
+        self.refusal = name_of_fault(fault);
+        Played::Right
+    }
+
+    fn hears(&mut self, alloc: Global, body: &str) -> Played {
         let mut out = Vec::new(alloc);
         match self.adapter.answer_body(alloc, body.as_bytes(), &mut out) {
-            Ok(_) => self.given.add(&out).is_ok(),
-            Err(fault) => {
-                self.refusal = name_of_fault(fault);
-                true
-            }
+            Ok(_) => Played::of_added(self.given.add(&out)),
+            Err(fault) => self.fails_by(alloc, fault),
         }
     }
 
-    fn says(&mut self, alloc: Global, text: &str) -> bool {
+    /// Hands the frame of a message in by `take` alone.
+    fn takes(&mut self, alloc: Global, body: &str) -> Played {
+        let Ok(frame) = frame_of(alloc, body) else {
+            return Played::Refused;
+        };
+        match self.adapter.take(alloc, &frame) {
+            Ok(taken) => Played::of(taken.used == frame.len() && taken.bytes.is_empty()),
+            Err(fault) => self.fails_by(alloc, fault),
+        }
+    }
+
+    fn says(&mut self, alloc: Global, text: &str) -> Played {
         match self.given.passes_text(alloc, text) {
-            Ok((is_next, _)) => is_next,
-            Err(_) => false,
+            Ok((is_next, _)) => Played::of(is_next),
+            Err(_) => Played::Refused,
         }
     }
 
-    fn lends(&self, alloc: Global, numbers: &str) -> bool {
+    fn lends(&self, alloc: Global, numbers: &str) -> Played {
         match lent_in(alloc, &self.adapter) {
-            Some(lent) => lent.as_str() == numbers,
-            None => false,
+            Some(lent) => Played::of(lent.as_str() == numbers),
+            None => Played::Refused,
         }
     }
 
-    fn responds(&mut self, alloc: Global, seq: u64, outcome: Outcome) -> bool {
+    fn responds(&mut self, alloc: Global, seq: u64, outcome: Outcome) -> Played {
         match answer(alloc, &mut self.adapter, seq, &outcome) {
-            Ok(out) => self.given.add(&out).is_ok(),
+            Ok(out) => Played::of_added(self.given.add(&out)),
+            Err("OutOfMemory") => Played::of_refusal(is_lent(&self.adapter, seq)),
             Err(refusal) => {
                 self.refusal = refusal;
-                true
+                Played::Right
             }
         }
     }
 
-    fn succeeds(&mut self, alloc: Global, words: &str) -> bool {
+    fn succeeds(&mut self, alloc: Global, words: &str) -> Played {
         let (number, body) = parts(words);
         let Ok(seq) = number.parse::<u64>() else {
-            return false;
+            return Played::Wrong;
         };
-        self.responds(alloc, seq, Outcome::Success(body_in(alloc, body)))
+        match body_in(alloc, body) {
+            Ok(body) => self.responds(alloc, seq, Outcome::Success(body)),
+            Err(_) => Played::Refused,
+        }
     }
 
-    fn fails(&mut self, alloc: Global, words: &str) -> bool {
+    fn fails(&mut self, alloc: Global, words: &str) -> Played {
         let (number, words) = parts(words);
         let (name, body) = parts(words);
         let Ok(seq) = number.parse::<u64>() else {
-            return false;
+            return Played::Wrong;
         };
-        let Ok(message) = Text::copied(alloc, name) else {
-            return false;
-        };
-        let body = body_in(alloc, body);
-        self.responds(alloc, seq, Outcome::Failure { message, body })
+        match (Text::copied(alloc, name), body_in(alloc, body)) {
+            (Ok(message), Ok(body)) => {
+                self.responds(alloc, seq, Outcome::Failure { message, body })
+            }
+            _ => Played::Refused,
+        }
     }
 
-    fn echoes(&mut self, alloc: Global, number: &str) -> bool {
+    fn echoes(&mut self, alloc: Global, number: &str) -> Played {
         let Ok(seq) = number.parse::<u64>() else {
-            return false;
+            return Played::Wrong;
         };
         match arguments_of(&self.adapter, seq) {
             Some(arguments) => self.responds(alloc, seq, Outcome::Success(arguments)),
-            None => false,
+            None => missing(),
         }
     }
 
-    /// Asks: whether it has this number, or is refused.
-    fn asks(&mut self, alloc: Global, number: &str, name: &str, arguments: Option<Tree>) -> bool {
+    /// Asks: right where it has this number, or is refused.
+    fn asks(&mut self, alloc: Global, number: &str, name: &str, arguments: Option<Tree>) -> Played {
         let Ok(wanted) = number.parse::<u64>() else {
-            return false;
+            return Played::Wrong;
         };
         if !is_plain_tree(&arguments) {
-            return false;
+            return Played::Wrong;
         }
+        let before = self.adapter.asked_by_name();
         let mut out = Vec::new(alloc);
         match self.adapter.ask(alloc, name, arguments, &mut out) {
-            Ok(seq) => seq == wanted && self.given.add(&out).is_ok(),
+            Ok(seq) if seq == wanted => Played::of_added(self.given.add(&out)),
+            Ok(_) => Played::Wrong,
+            Err(AskFault::OutOfMemory) => {
+                Played::of_refusal(out.is_empty() && self.adapter.asked_by_name() == before)
+            }
             Err(fault) => {
                 self.refusal = name_of_refusal(fault);
-                true
+                Played::Right
             }
         }
     }
 
-    fn asks_with(&mut self, alloc: Global, words: &str) -> bool {
+    fn asks_with(&mut self, alloc: Global, words: &str) -> Played {
         let (number, words) = parts(words);
         let (name, body) = parts(words);
-        self.asks(alloc, number, name, body_in(alloc, body))
+        match body_in(alloc, body) {
+            Ok(arguments) => self.asks(alloc, number, name, arguments),
+            Err(_) => Played::Refused,
+        }
     }
 
-    fn asks_at_length(&mut self, alloc: Global, words: &str) -> bool {
+    fn asks_at_length(&mut self, alloc: Global, words: &str) -> Played {
         let (number, words) = parts(words);
         let (name, bytes) = parts(words);
         let Ok(bytes) = bytes.parse::<usize>() else {
-            return false;
+            return Played::Wrong;
         };
-        match text_of(alloc, bytes) {
-            Ok(text) => self.asks(alloc, number, name, body_in(alloc, text.as_str())),
-            Err(_) => false,
+        let Ok(text) = text_of(alloc, bytes) else {
+            return Played::Refused;
+        };
+        match body_in(alloc, text.as_str()) {
+            Ok(arguments) => self.asks(alloc, number, name, arguments),
+            Err(_) => Played::Refused,
         }
     }
 
-    fn waits_for(&self, number: &str) -> bool {
-        number.parse::<usize>() == Ok(self.adapter.asked_by_name())
+    fn waits_for(&self, number: &str) -> Played {
+        Played::of(number.parse::<usize>() == Ok(self.adapter.asked_by_name()))
     }
 
-    fn is_refused(&mut self, refusal: &str) -> bool {
+    fn is_refused(&mut self, refusal: &str) -> Played {
         if self.refusal != refusal {
-            return false;
+            return Played::Wrong;
         }
         self.refusal = "";
-        true
+        Played::Right
     }
 
     /// Makes the call of a line, if it makes one.
-    fn calls(&mut self, alloc: Global, word: &str, rest: &str) -> bool {
+    fn calls(&mut self, alloc: Global, word: &str, rest: &str) -> Played {
         match word {
             ">" => self.hears(alloc, rest),
+            "take" => self.takes(alloc, rest),
             "success" => self.succeeds(alloc, rest),
             "failure" => self.fails(alloc, rest),
             "echo" => self.echoes(alloc, rest),
             "ask" => self.asks_with(alloc, rest),
             "long" => self.asks_at_length(alloc, rest),
-            "closed" => self.adapter.take(alloc, b"no header\r\n\r\n").is_err(),
-            _ => false,
+            "closed" => Played::of(self.adapter.take(alloc, b"no header\r\n\r\n").is_err()),
+            _ => Played::Wrong,
+        }
+    }
+
+    /// Does what a line says, once all that came of the last call was named.
+    fn does_next(&mut self, alloc: Global, word: &str, rest: &str) -> Played {
+        if !self.is_settled() {
+            return Played::Wrong;
+        }
+        match word {
+            "lent" => self.lends(alloc, rest),
+            "waits" => self.waits_for(rest),
+            _ => self.calls(alloc, word, rest),
         }
     }
 
     /// Does what a line says: whether it is so.
-    fn does(&mut self, alloc: Global, line: &str) -> bool {
+    fn does(&mut self, alloc: Global, line: &str) -> Played {
         let (word, rest) = parts(line);
         match word {
-            "opened" | "from" => true,
+            "opened" | "from" => Played::Right,
             "<" => self.says(alloc, rest),
             "!" => self.is_refused(rest),
-            "lent" => self.is_settled() && self.lends(alloc, rest),
-            "waits" => self.is_settled() && self.waits_for(rest),
-            _ => self.is_settled() && self.calls(alloc, word, rest),
+            _ => self.does_next(alloc, word, rest),
         }
     }
 }
@@ -329,16 +405,20 @@ impl Player for Holder {
     fn open(alloc: Global, setting: &Setting<'_>, came: &mut String) -> Result<Holder, Played> {
         match Holder::of_row(alloc, setting) {
             Some(holder) => Ok(holder),
-            None => Err(wrong(came, "no adapter")),
+            None => {
+                note(came, "no adapter");
+                Err(missing())
+            }
         }
     }
 
     fn follow(&mut self, alloc: Global, line: &str, came: &mut String) -> Played {
-        if self.does(alloc, line) {
-            return Played::Right;
+        let outcome = self.does(alloc, line);
+        if outcome == Played::Wrong {
+            self.given.tell(came);
+            note(came, self.refusal);
         }
-        self.given.tell(came);
-        wrong(came, self.refusal)
+        outcome
     }
 
     fn finish(&mut self, _alloc: Global, came: &mut String) -> Played {

@@ -15,7 +15,7 @@ use std::test::Fail;
 use test_kit::rows::play_rows;
 use test_kit::samples::RECORDING;
 
-static ROWS: [&str; 22] = [
+pub(crate) static ROWS: [&str; 22] = [
     r#"
 row nothing is opened
 from stopped
@@ -349,7 +349,10 @@ fn is_answered_in(
     let Ok(text) = text_of(alloc, bytes) else {
         return false;
     };
-    let outcome = Outcome::Success(body_in(alloc, text.as_str()));
+    let Ok(body) = body_in(alloc, text.as_str()) else {
+        return false;
+    };
+    let outcome = Outcome::Success(body);
     match answer(alloc, adapter, seq, &outcome) {
         Ok(out) => match first_body(&out) {
             Some((body, _)) => body.len() == 1024 && body.ends_with(wanted.as_bytes()),

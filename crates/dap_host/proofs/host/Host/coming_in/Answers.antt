@@ -1,4 +1,4 @@
-use Rattle.std.proofs.Common.{refl, ap, ◌∙◌}
+use Rattle.std.proofs.Common.{ap, ◌∙◌}
 use Rattle.dap_live.specs.LiveShown.{LiveState}
 use Rattle.dap_host.proofs.GoingLemmas.{comes_at, unheard_at, dropped_at}
 use Rattle.dap_host.proofs.host.Host.coming_in.Goals as goal

@@ -1,4 +1,4 @@
-use Rattle.std.proofs.Common.{◌≡◌, ℕ, ◌<◌, false, List, [], length, ◌++◌, refl, sym, ap, ◌∙◌, subst, inl, inr}
+use Rattle.std.proofs.Common.{◌≡◌, ℕ, ◌<◌, List, [], length, ◌++◌, refl, sym, ap, ◌∙◌, subst, inl, inr}
 use Rattle.dap_host.specs.PrivateFetching.{IsDropped}
 use Rattle.dap_host.specs.PrivateHosting.{HostingState, Answers, AnswerStops, IsWhole}
 use Rattle.dap_host.proofs.LongLemmas.{last_whole, some_whole}

@@ -1,4 +1,4 @@
-use Rattle.std.proofs.Common.{◌≡◌, ℕ, ◌++◌, false, sym, ◌∙◌, subst}
+use Rattle.std.proofs.Common.{ℕ, ◌++◌, false, sym, subst}
 use Rattle.dap_host.specs.PrivateFetching.{IsDropped}
 use Rattle.dap_host.specs.PrivateHosting.{HostingState, SoFar}
 use Rattle.dap_host.proofs.HostingLemmas.{line_heard, first_stops, all_heard, last_stops, fetch_stops}

@@ -5,7 +5,7 @@ use Rattle.dap_debuggee.specs.Shown.{to_start, done}
 use Rattle.dap_plan.specs.declared.fault.AdapterFault.TheVariants.{OutOfMemory}
 use Rattle.dap_plan.specs.Handling.{after_parked_launch}
 use Rattle.dap_outbox.specs.Draft.{bytes_of}
-use Rattle.dap_outbox.specs.InRange.{AnswersInRange}
+use Rattle.dap_outbox.specs.InRange.{AreDraftsInRange}
 use Rattle.dap_plan.specs.Plan.{asking, written_by}
 use Rattle.dap_plan.specs.SessionState.{SessionState}
 use Rattle.dap_session.specs.PrivateReplies.{reply_of}
@@ -44,7 +44,7 @@ returns-clause-carries g c =
       };
       tells = record {
         bytes_are = c.in_ok-start_responses.ensures.holds.bytes ∙ ap (λ (x : Session). bytes_of (written_by x (after_parked_launch x c.args.request.now (reply_of c.in_ok-reply.reply)))) c.in_ok-reply.ensures.session;
-        reads_back = subst (λ (x : Session). AnswersInRange (after_parked_launch x c.args.request.now (reply_of c.in_ok-reply.reply)).drafts → AllReadBack x.limits.body (written_by x (after_parked_launch x c.args.request.now (reply_of c.in_ok-reply.reply)))) c.in_ok-reply.ensures.session c.in_ok-start_responses.ensures.holds.reads_back;
+        reads_back = subst (λ (x : Session). AreDraftsInRange (after_parked_launch x c.args.request.now (reply_of c.in_ok-reply.reply)).drafts → AllReadBack x.limits.body (written_by x (after_parked_launch x c.args.request.now (reply_of c.in_ok-reply.reply)))) c.in_ok-reply.ensures.session c.in_ok-start_responses.ensures.holds.reads_back;
       };
     }
 

@@ -2,7 +2,7 @@ use Rattle.std.proofs.Common.{◌≡◌, ◌&&◌, length}
 use Rattle.std.specs.List.{list_any}
 use Rattle.dap_tables.specs.Outstanding.{is_parked}
 use Rattle.dap_plan.specs.Handling.{wants_terminal}
-use Rattle.dap_session.proofs.asking.are_wanting.Given as goal
+use Rattle.dap_session.proofs.terminal.are_wanting.Given as goal
 
 -- those before were not
 abbrev pub invariant-loop-request : goal.invariant-loop-request
