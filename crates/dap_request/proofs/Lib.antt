@@ -1,0 +1,3 @@
+pub mod ReadBeside
+pub mod PlainBeside
+mod BesideExamples
