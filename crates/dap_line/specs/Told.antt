@@ -18,7 +18,7 @@ use Rattle.dap_json.specs.More.{more_of}
 use Rattle.dap_json.specs.Property.{or_bad, required, in_shape, in_shape_or}
 use Rattle.dap_json.specs.Read.{json_of}
 use Rattle.dap_json.specs.Writable.{is_plain_tree}
-use Rattle.dap_json.specs.Steps.{Returns}
+use Rattle.dap_json.specs.Steps.{◌>>=◌, Returns}
 use Rattle.dap_recording.specs.Pieces.{piece_length}
 use Rattle.dap_recording.specs.Reading.{exit_of}
 use Rattle.dap_line.specs.Written.{host_key_name}
