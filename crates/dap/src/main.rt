@@ -76,12 +76,21 @@ fn main(rt: HostRuntime) -> ExitCode {
     ExitCode::from(code)
 }
 
-/// How much of the stack the deepest work takes, in bytes.
-const STACK: usize = 589824;
+/// How much of the stack the deepest work takes, in bytes: both together, as the prover takes no array of so many.
+const STACK: usize = 393216;
+
+const MORE_STACK: usize = 196608;
 
 #[inline(never)]
 fn fill(room: &mut [u8], byte: u8) {
     room.fill(byte);
+}
+
+#[inline(never)]
+fn reserve_more(byte: u8) -> bool {
+    let mut room = [0; MORE_STACK];
+    fill(&mut room, byte);
+    room[MORE_STACK - 1] == byte
 }
 
 /// Uses so much of the stack, before any memory is taken: where the system has no more for the stack later, it has refused memory
@@ -90,7 +99,7 @@ fn fill(room: &mut [u8], byte: u8) {
 fn reserve_stack(byte: u8) -> bool {
     let mut room = [0; STACK];
     fill(&mut room, byte);
-    room[STACK - 1] == byte
+    reserve_more(byte) && room[STACK - 1] == byte
 }
 
 /// Does what the command line asks for, and answers the exit status.
